@@ -1,0 +1,5 @@
+pub mod Orders
+pub mod Telegrams
+pub mod Readings
+pub mod Sorting
+pub mod Replacing
