@@ -1,6 +1,6 @@
 -- Ascending lists under an order that is given by a test `le x y`, "x stands no later than y".
 use mathlib.Core.Path.{_≡_}
-use mathlib.Core.Bool.{Bool, true, false, cond}
+use mathlib.Core.Bool.{Bool, true, false, cond, _&&_}
 use mathlib.Core.List.{List, [], _∷_}
 use Prim.Native.Nat.{ℕ, _+_}
 use Rattle.std.specs.shelf.Lists.{All}
@@ -35,3 +35,12 @@ later le a b = cond (le a b) b a
 -- x is a record, and not the blank
 abbrev pub Filled : {R : Type 0} → (R → R → Bool) → R → R → Type 0
 Filled le blank x = le blank x ≡ false
+
+-- each of two stands no later than the other: they are equal in every field
+abbrev pub same : {R : Type 0} → (R → R → Bool) → R → R → Bool
+same le x y = le x y && le y x
+
+-- how often x stands in a list
+abbrev pub count : {R : Type 0} → (R → R → Bool) → R → List R → ℕ
+count le x [] = 0
+count le x (y ∷ ys) = cond (same le x y) 1 0 + count le x ys
