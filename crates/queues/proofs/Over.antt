@@ -41,3 +41,17 @@ module _ {R Q P : Type 0} (held : Q → List R) (room slack : Q → ℕ) (held�
     pub exchanges-over : (x : R) (r : Result R QueueFault) → (p′ ≡ p → q′ ≡ q) → Exchanges le blank held₀ room₀ slack₀ p x r p′ → Exchanges le blank held room slack q x r q′
     exchanges-over x (Ok r) same t = (t .0, record { rest = t .1 .rest; was = a .held-is ∙ t .1 .was; is = b .held-is ∙ t .1 .is }, same-over (t .2))
     exchanges-over x (Err e) same t = (⊎-elim inl (λ h. inr (h .0, a .held-is ∙ h .1, h .2)) (t .0), same (t .1))
+
+-- a value about another, `inner`, and equal where those are: it means what the inner one means
+module _ {R W P : Type 0} (held : P → List R) (room slack : P → ℕ) (inner : W → P) (same : (x y : W) → inner x ≡ inner y → x ≡ y) (w w′ : W) where
+  reads : (v : W) → Reads (λ v. held (inner v)) (λ v. room (inner v)) (λ v. slack (inner v)) held room slack v (inner v)
+  reads v = record { held-is = refl; room-is = refl; slack-is = refl }
+
+  pub takes-in : (r : Result R QueueFault) → Takes held room slack (inner w) r (inner w′) → Takes (λ v. held (inner v)) (λ v. room (inner v)) (λ v. slack (inner v)) w r w′
+  takes-in r = takes-over (λ v. held (inner v)) (λ v. room (inner v)) (λ v. slack (inner v)) held room slack w w′ (inner w) (inner w′) (reads w) (reads w′) r (same w′ w)
+
+  pub puts-in : (le : R → R → Bool) (blank x : R) (r : Result (Put R) QueueFault) → Puts le blank held room slack (inner w) x r (inner w′) → Puts le blank (λ v. held (inner v)) (λ v. room (inner v)) (λ v. slack (inner v)) w x r w′
+  puts-in le blank x r = puts-over (λ v. held (inner v)) (λ v. room (inner v)) (λ v. slack (inner v)) held room slack w w′ (inner w) (inner w′) (reads w) (reads w′) le blank x r (same w′ w)
+
+  pub exchanges-in : (le : R → R → Bool) (blank x : R) (r : Result R QueueFault) → Exchanges le blank held room slack (inner w) x r (inner w′) → Exchanges le blank (λ v. held (inner v)) (λ v. room (inner v)) (λ v. slack (inner v)) w x r w′
+  exchanges-in le blank x r = exchanges-over (λ v. held (inner v)) (λ v. room (inner v)) (λ v. slack (inner v)) held room slack w w′ (inner w) (inner w′) (reads w) (reads w′) le blank x r (same w′ w)

@@ -1,0 +1,117 @@
+// Drives the queues through worked sequences and prints what happened after every call.
+use grouped::shape::GroupCells;
+use queues::queue::Put;
+use queues::queue::Queue;
+use records::record::is_blank;
+use records::record::Record;
+use records::telegram::Telegram;
+use records::telegram::TelegramRecord;
+use std::alloc::AllocError;
+use std::alloc::Global;
+use std::error::AnyError;
+use telegram_queues::groups::TelegramGroups;
+use telegram_queues::groups::TelegramGroupsQueue;
+
+// A call of a queue; the numbers are releases.
+#[derive(Clone, Copy)]
+enum Call {
+    Put(u64),
+    Take,
+    Exchange(u64),
+}
+
+fn telegram(release: u64) -> Telegram {
+    Telegram {
+        release,
+        number: 0,
+        row: 0,
+        length: 64,
+        handle: 0,
+    }
+}
+
+// The cells in their groups, by their releases; a free cell is an underscore.
+fn picture(heap: Global, cells: &[Telegram], size: usize) -> Result<String, AllocError> {
+    let mut text = String::new(heap);
+    for (place, cell) in cells.iter().enumerate() {
+        let opens = size == 0 || place % size == 0;
+        text.push_str(if opens && place > 0 { "][" } else if opens { "[" } else { " " })?;
+        if is_blank(cell) {
+            text.push_str("_")?;
+        } else {
+            let release = cell.release;
+            text.push_str(format!(heap, "{release}")?.as_str())?;
+        }
+    }
+    text.push_str("]")?;
+    Ok(text)
+}
+
+// Makes one call and says what was answered.
+fn call(heap: Global, queue: &mut TelegramGroups, call: Call) -> Result<String, AllocError> {
+    match call {
+        Call::Put(release) => match queue.put(telegram(release)) {
+            Ok(Put::Kept) => format!(heap, "put {release}"),
+            Ok(Put::Displaced(d)) => {
+                let other = d.release;
+                format!(heap, "put {release} displaces {other}")
+            }
+            Err(fault) => {
+                let number = fault.number();
+                format!(heap, "put {release} refused by {number}")
+            }
+        },
+        Call::Take => match queue.take() {
+            Ok(t) => {
+                let release = t.release;
+                format!(heap, "take answers {release}")
+            }
+            Err(fault) => {
+                let number = fault.number();
+                format!(heap, "take refused by {number}")
+            }
+        },
+        Call::Exchange(newcomer) => match queue.exchange(telegram(newcomer)) {
+            Ok(t) => {
+                let release = t.release;
+                format!(heap, "exchange {newcomer} answers {release}")
+            }
+            Err(fault) => {
+                let number = fault.number();
+                format!(heap, "exchange {newcomer} refused by {number}")
+            }
+        },
+    }
+}
+
+// Three groups of three telegrams, driven through the calls.
+fn drive(rt: &LibcRuntime, calls: &[Call]) -> Result<(), AnyError> {
+    let heap = rt.alloc();
+    let cells = vec![in heap; Telegram::blank(); 9]?;
+    let Ok(over) = GroupCells::new(cells, 3, 3) else {
+        return Err("nine cells are three groups of three".into());
+    };
+    let mut queue = TelegramGroups::new(over);
+    for next in calls {
+        let said = call(heap, &mut queue, *next)?;
+        let seen = picture(heap, queue.cells(), 3)?;
+        println!(rt, "{said:<24}{seen}")?;
+    }
+    Ok(())
+}
+
+fn main(rt: LibcRuntime) -> Result<(), AnyError> {
+    println!(rt, "3 groups of 3 telegrams, by their releases: puts and takes")?;
+    let puts_and_takes = [
+        Call::Put(5), Call::Put(7), Call::Put(6), Call::Put(2), Call::Take,
+        Call::Put(1), Call::Put(4), Call::Put(0), Call::Put(9),
+        Call::Take, Call::Take, Call::Take, Call::Take, Call::Take,
+    ];
+    drive(&rt, &puts_and_takes)?;
+    println!(rt, "the same with exchanges")?;
+    let exchanges = [
+        Call::Put(5), Call::Put(7), Call::Put(6), Call::Put(2), Call::Take,
+        Call::Exchange(1), Call::Exchange(4), Call::Exchange(0), Call::Exchange(9), Call::Take,
+    ];
+    drive(&rt, &exchanges)
+}

@@ -1,0 +1,4 @@
+pub mod Ascending
+pub mod Telling
+pub mod Meaning
+pub mod Wrapping
