@@ -1,5 +1,6 @@
 // Drives the queues through worked sequences and prints what happened after every call.
 use grouped::shape::GroupCells;
+use queues::fault::QueueFault;
 use queues::queue::Put;
 use queues::queue::Queue;
 use records::record::is_blank;
@@ -47,41 +48,45 @@ fn picture(heap: Global, cells: &[Telegram], size: usize) -> Result<String, Allo
     Ok(text)
 }
 
+// What a put answered, in words.
+fn put_said(heap: Global, release: u64, answer: Put<Telegram>) -> Result<String, AllocError> {
+    match answer {
+        Put::Kept => format!(heap, "put {release}"),
+        Put::Displaced(telegram) => {
+            let other = telegram.release;
+            format!(heap, "put {release} displaces {other}")
+        }
+    }
+}
+
 // Makes one call and says what was answered.
-fn call(heap: Global, queue: &mut TelegramGroups, call: Call) -> Result<String, AllocError> {
+fn make_call(heap: Global, queue: &mut TelegramGroups, call: Call) -> Result<String, AllocError> {
     match call {
         Call::Put(release) => match queue.put(telegram(release)) {
-            Ok(Put::Kept) => format!(heap, "put {release}"),
-            Ok(Put::Displaced(d)) => {
-                let other = d.release;
-                format!(heap, "put {release} displaces {other}")
-            }
-            Err(fault) => {
-                let number = fault.number();
-                format!(heap, "put {release} refused by {number}")
-            }
+            Ok(answer) => put_said(heap, release, answer),
+            Err(fault) => refusal_said(heap, fault),
         },
         Call::Take => match queue.take() {
-            Ok(t) => {
-                let release = t.release;
+            Ok(first) => {
+                let release = first.release;
                 format!(heap, "take answers {release}")
             }
-            Err(fault) => {
-                let number = fault.number();
-                format!(heap, "take refused by {number}")
-            }
+            Err(fault) => refusal_said(heap, fault),
         },
         Call::Exchange(newcomer) => match queue.exchange(telegram(newcomer)) {
-            Ok(t) => {
-                let release = t.release;
+            Ok(first) => {
+                let release = first.release;
                 format!(heap, "exchange {newcomer} answers {release}")
             }
-            Err(fault) => {
-                let number = fault.number();
-                format!(heap, "exchange {newcomer} refused by {number}")
-            }
+            Err(fault) => refusal_said(heap, fault),
         },
     }
+}
+
+// A refusal, in words.
+fn refusal_said(heap: Global, fault: QueueFault) -> Result<String, AllocError> {
+    let number = fault.number();
+    format!(heap, "refused by {number}")
 }
 
 // Three groups of three telegrams, driven through the calls.
@@ -93,7 +98,7 @@ fn drive(rt: &LibcRuntime, calls: &[Call]) -> Result<(), AnyError> {
     };
     let mut queue = TelegramGroups::new(over);
     for next in calls {
-        let said = call(heap, &mut queue, *next)?;
+        let said = make_call(heap, &mut queue, *next)?;
         let seen = picture(heap, queue.cells(), 3)?;
         println!(rt, "{said:<24}{seen}")?;
     }

@@ -1,7 +1,7 @@
 -- Cells that stand ascending: read by places and as a list, their records first and the free cells last.
 use mathlib.Core.Path.{_≡_, refl, sym, ap, subst, _∙_}
 use mathlib.Core.Bool.{Bool, true, false, cond}
-use mathlib.Core.List.{List, [], _∷_, _++_, append-nil}
+use mathlib.Core.List.{List, [], _∷_, _++_}
 use mathlib.Core.Logic.{_⊎_, ⊎-elim}
 use Prim.Native.Nat.{ℕ, zero, suc, _+_, _-_, _<_, _≤_}
 use native.Mathlib.Omega.{arith}
@@ -12,9 +12,8 @@ use Rattle.std.proofs.shelf.Tests.{cases-bool}
 use Rattle.std.proofs.shelf.Lists.{take-append-drop, drop-drop, drop-all, drop-append-le, drop-replicate, take-replicate, getD-drop, getD-take, take-take, length-take-le}
 use Rattle.std.proofs.shelf.Elements.{all-getD, all-from-getD, all-take, all-weaker}
 use Rattle.records.specs.Linear.{Linear}
-use Rattle.records.specs.Sorting.{insert, sort, Ascending, Filled}
-use Rattle.records.proofs.Sorting.{insert-first, insert-past, sort-ascending}
-use Rattle.queues.specs.Cells.{held-in}
+use Rattle.records.specs.Sorting.{insert, Ascending}
+use Rattle.records.proofs.Sorting.{insert-first, sort-ascending}
 use Rattle.queues.proofs.Cells.{kept, kept-within, kept-first, kept-none, is-blank}
 use Rattle.sorted.specs.Standing.{Ascends, Counted, put-cells, exchange-cells}
 

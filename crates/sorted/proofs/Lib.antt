@@ -1,4 +1,4 @@
 pub mod Ascending
 pub mod Telling
 pub mod Meaning
-pub mod Wrapping
+pub mod Lawful

@@ -2,9 +2,8 @@
 // cannot say them. Each kind wraps it in a type of its own that does, and only such a type is handed out.
 ghost use mathlib.Core.Bool.{cond};
 ghost use mathlib.Core.Path.{_≡_};
-ghost use Prim.Native.Nat.{_-_};
 ghost use lib.Dec.{eqb};
-ghost use lib.ListN.{length, getD, replicate};
+ghost use lib.ListN.{length, replicate};
 ghost use Rattle.std.specs.Results.{isOk};
 ghost use Rattle.std.specs.Of.Vec.{vec-len};
 ghost use Rattle.queues.specs.Queues.{Puts, Takes, Exchanges, first-of, told};

@@ -1,7 +1,6 @@
 // How a newcomer comes in among cells of which the first `held` hold a record. The free cells stay
 // where they are, and none of them is looked at.
 ghost use mathlib.Core.Path.{_≡_};
-ghost use mathlib.Core.List.{List};
 ghost use Prim.Native.Nat.{_-_, _<_};
 ghost use lib.ListN.{length, getD, replicate};
 ghost use Rattle.sorted.specs.Standing.{Ascends, Counted, put-cells, exchange-cells};

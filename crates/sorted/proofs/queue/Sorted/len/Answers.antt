@@ -1,8 +1,6 @@
 use mathlib.Core.Path.{_≡_, ap, _∙_}
-use Prim.Native.Nat.{_≤_, min}
 use native.Mathlib.Omega.{arith}
 use Rattle.queues.specs.Queues.{told}
-use Rattle.sorted.specs.Lines.{sorted-room}
 use Rattle.sorted.proofs.Meaning as meaning
 use Rattle.sorted.proofs.queue.Sorted.len.Needs as need
 

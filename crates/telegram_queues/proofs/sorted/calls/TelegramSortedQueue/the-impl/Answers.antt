@@ -1,6 +1,6 @@
 use Rattle.records.specs.Telegrams.{stands, blank}
 use Rattle.records.proofs.Telegrams.{linear}
-use Rattle.sorted.proofs.Wrapping.{sorted-lawful}
+use Rattle.sorted.proofs.Lawful.{sorted-lawful}
 use Rattle.telegram_queues.proofs.sorted.calls.TelegramSortedQueue.the-impl.Needs as need
 
 pub lawful-law : need.lawful-law
