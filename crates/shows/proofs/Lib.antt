@@ -1,0 +1,9 @@
+pub mod Growing
+pub mod Inserting
+pub mod Newcomers
+pub mod Refusals
+pub mod Ledger
+pub mod Pace
+pub mod Turns
+pub mod Accounting
+pub mod Worked

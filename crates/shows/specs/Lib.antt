@@ -5,3 +5,4 @@ pub mod Timing
 pub mod Calls
 pub mod Histories
 pub mod Accounts
+pub mod Worked

@@ -3,5 +3,6 @@
 pub mod answer;
 pub mod card;
 pub mod fault;
+pub mod law;
 pub mod row;
 pub mod zone;
