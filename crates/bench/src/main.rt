@@ -1,17 +1,29 @@
-// Drives the queues through worked sequences and prints what happened after every call.
+// Drives the queues and shows through worked sequences and prints what happened after every call.
+mod evening;
+
+use evening::admit_said;
+use evening::evening;
+use evening::evening_said;
+use evening::last_ticks;
 use grouped::shape::GroupCells;
 use queues::fault::QueueFault;
 use queues::queue::Put;
 use queues::queue::Queue;
+use queues::side::SideCell;
+use queues::side::SideCellQueue;
 use records::record::is_blank;
 use records::record::Record;
 use records::telegram::Telegram;
 use records::telegram::TelegramRecord;
+use shows::card::RowCard;
+use sorted::cells::SortedCells;
 use std::alloc::AllocError;
 use std::alloc::Global;
 use std::error::AnyError;
 use telegram_queues::groups::TelegramGroups;
 use telegram_queues::groups::TelegramGroupsQueue;
+use telegram_queues::sorted::TelegramSorted;
+use telegram_queues::sorted::TelegramSortedQueue;
 
 // A call of a queue; the numbers are releases.
 #[derive(Clone, Copy)]
@@ -92,15 +104,46 @@ fn refusal_said(heap: Global, fault: QueueFault) -> Result<String, AllocError> {
 // Three groups of three telegrams, driven through the calls.
 fn drive(rt: &LibcRuntime, calls: &[Call]) -> Result<(), AnyError> {
     let heap = rt.alloc();
-    let cells = vec![in heap; Telegram::blank(); 9]?;
-    let Ok(over) = GroupCells::new(cells, 3, 3) else {
-        return Err("nine cells are three groups of three".into());
-    };
-    let mut queue = TelegramGroups::new(over);
+    let mut queue = nine_cells(heap)?;
     for next in calls {
         let said = make_call(heap, &mut queue, *next)?;
         let seen = picture(heap, queue.cells(), 3)?;
         println!(rt, "{said:<24}{seen}")?;
+    }
+    Ok(())
+}
+
+// Three groups of three cells.
+fn nine_cells(heap: Global) -> Result<TelegramGroups, AnyError> {
+    let Ok(over) = GroupCells::new(vec![in heap; Telegram::blank(); 9]?, 3, 3) else {
+        return Err("nine cells are three groups of three".into());
+    };
+    Ok(TelegramGroups::new(over))
+}
+
+// The cells of a sorted queue.
+fn sorted_cells(heap: Global) -> Result<TelegramSorted, AnyError> {
+    let Ok(over) = SortedCells::new(vec![in heap; Telegram::blank(); 9]?) else {
+        return Err("nine cells are enough".into());
+    };
+    Ok(TelegramSorted::new(over))
+}
+
+// One evening over each queue, and the last ticks of a row.
+fn evenings(rt: &LibcRuntime) -> Result<(), AnyError> {
+    let heap = rt.alloc();
+    let (Ok(slow), Ok(quick)) = (RowCard::new(20, 3000), RowCard::new(1, 0)) else {
+        return Err("the cards are within their bounds".into());
+    };
+    println!(rt, "an evening over a grouped queue")?;
+    print!(rt, "{}", evening_said(heap, &evening(slow, nine_cells(heap)?))?)?;
+    println!(rt, "an evening over a sorted queue")?;
+    print!(rt, "{}", evening_said(heap, &evening(slow, sorted_cells(heap)?))?)?;
+    println!(rt, "an evening over a side cell beside a grouped queue")?;
+    print!(rt, "{}", evening_said(heap, &evening(slow, SideCell::new(nine_cells(heap)?)))?)?;
+    println!(rt, "64 bytes at pace 1, 64 ticks and then 63 ticks before the last")?;
+    for answer in last_ticks(quick, nine_cells(heap)?).iter() {
+        println!(rt, "{}", admit_said(heap, answer)?)?;
     }
     Ok(())
 }
@@ -118,5 +161,6 @@ fn main(rt: LibcRuntime) -> Result<(), AnyError> {
         Call::Put(5), Call::Put(7), Call::Put(6), Call::Put(2), Call::Take,
         Call::Exchange(1), Call::Exchange(4), Call::Exchange(0), Call::Exchange(9), Call::Take,
     ];
-    drive(&rt, &exchanges)
+    drive(&rt, &exchanges)?;
+    evenings(&rt)
 }

@@ -1,2 +1,3 @@
 pub mod Cells
 pub mod Panels
+pub mod Shows

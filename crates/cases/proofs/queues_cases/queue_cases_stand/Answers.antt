@@ -1,6 +1,6 @@
 use mathlib.Core.Path.{refl}
 use Rattle.records.specs.Readings.{distance}
-use Rattle.cases.proofs.queue_cases_stand.Needs as need
+use Rattle.cases.proofs.queues_cases.queue_cases_stand.Needs as need
 
 pub returns : need.returns
 unfolding distance
