@@ -35,7 +35,10 @@ pub fn evening<Q: Queue<Telegram> + Drop>(card: RowCard, queue: Q) -> Evening {
 }
 
 // A row at pace 1: 64 bytes that are over with the last tick, and 64 bytes that would be over past it.
-pub fn last_ticks<Q: Queue<Telegram> + Drop>(card: RowCard, queue: Q) -> [Result<Admission, ShowFault>; 2] {
+pub fn last_ticks<Q: Queue<Telegram> + Drop>(
+    card: RowCard,
+    queue: Q,
+) -> [Result<Admission, ShowFault>; 2] {
     const LAST_TICK: u64 = 281_474_976_710_655;
     let mut rigged = RiggedShow::new(queue);
     let _ = rigged.set(0, card);
@@ -48,7 +51,10 @@ pub fn last_ticks<Q: Queue<Telegram> + Drop>(card: RowCard, queue: Q) -> [Result
 }
 
 // What an admit answered, in words.
-pub fn admit_said(heap: Global, answer: &Result<Admission, ShowFault>) -> Result<String, AllocError> {
+pub fn admit_said(
+    heap: Global,
+    answer: &Result<Admission, ShowFault>,
+) -> Result<String, AllocError> {
     match answer {
         Ok(admission) => {
             let number = admission.telegram.number;
@@ -92,6 +98,9 @@ pub fn evening_said(heap: Global, evening: &Evening) -> Result<String, AllocErro
     let departed = report.departed;
     let displaced = report.displaced;
     let held = report.held;
-    text.push_str(format!(heap, "close: accepted {accepted}, departed {departed}, displaced {displaced}, held {held}\n")?.as_str())?;
+    text.push_str(format!(
+        heap,
+        "close: accepted {accepted}, departed {departed}, displaced {displaced}, held {held}\n"
+    )?.as_str())?;
     Ok(text)
 }

@@ -11,8 +11,8 @@ use queues::queue::Put;
 use queues::queue::Queue;
 use queues::side::SideCell;
 use queues::side::SideCellQueue;
-use records::record::is_blank;
 use records::record::Record;
+use records::record::is_blank;
 use records::telegram::Telegram;
 use records::telegram::TelegramRecord;
 use shows::card::RowCard;
@@ -48,7 +48,13 @@ fn picture(heap: Global, cells: &[Telegram], size: usize) -> Result<String, Allo
     let mut text = String::new(heap);
     for (place, cell) in cells.iter().enumerate() {
         let opens = size == 0 || place % size == 0;
-        text.push_str(if opens && place > 0 { "][" } else if opens { "[" } else { " " })?;
+        text.push_str(if opens && place > 0 {
+            "]["
+        } else if opens {
+            "["
+        } else {
+            " "
+        })?;
         if is_blank(cell) {
             text.push_str("_")?;
         } else {
@@ -136,12 +142,27 @@ fn evenings(rt: &LibcRuntime) -> Result<(), AnyError> {
         return Err("the cards are within their bounds".into());
     };
     println!(rt, "an evening over a grouped queue")?;
-    print!(rt, "{}", evening_said(heap, &evening(slow, nine_cells(heap)?))?)?;
+    print!(
+        rt,
+        "{}",
+        evening_said(heap, &evening(slow, nine_cells(heap)?))?
+    )?;
     println!(rt, "an evening over a sorted queue")?;
-    print!(rt, "{}", evening_said(heap, &evening(slow, sorted_cells(heap)?))?)?;
+    print!(
+        rt,
+        "{}",
+        evening_said(heap, &evening(slow, sorted_cells(heap)?))?
+    )?;
     println!(rt, "an evening over a side cell beside a grouped queue")?;
-    print!(rt, "{}", evening_said(heap, &evening(slow, SideCell::new(nine_cells(heap)?)))?)?;
-    println!(rt, "64 bytes at pace 1, 64 ticks and then 63 ticks before the last")?;
+    print!(
+        rt,
+        "{}",
+        evening_said(heap, &evening(slow, SideCell::new(nine_cells(heap)?)))?
+    )?;
+    println!(
+        rt,
+        "64 bytes at pace 1, 64 ticks and then 63 ticks before the last"
+    )?;
     for answer in last_ticks(quick, nine_cells(heap)?).iter() {
         println!(rt, "{}", admit_said(heap, answer)?)?;
     }
@@ -149,17 +170,39 @@ fn evenings(rt: &LibcRuntime) -> Result<(), AnyError> {
 }
 
 fn main(rt: LibcRuntime) -> Result<(), AnyError> {
-    println!(rt, "3 groups of 3 telegrams, by their releases: puts and takes")?;
+    println!(
+        rt,
+        "3 groups of 3 telegrams, by their releases: puts and takes"
+    )?;
     let puts_and_takes = [
-        Call::Put(5), Call::Put(7), Call::Put(6), Call::Put(2), Call::Take,
-        Call::Put(1), Call::Put(4), Call::Put(0), Call::Put(9),
-        Call::Take, Call::Take, Call::Take, Call::Take, Call::Take,
+        Call::Put(5),
+        Call::Put(7),
+        Call::Put(6),
+        Call::Put(2),
+        Call::Take,
+        Call::Put(1),
+        Call::Put(4),
+        Call::Put(0),
+        Call::Put(9),
+        Call::Take,
+        Call::Take,
+        Call::Take,
+        Call::Take,
+        Call::Take,
     ];
     drive(&rt, &puts_and_takes)?;
     println!(rt, "the same with exchanges")?;
     let exchanges = [
-        Call::Put(5), Call::Put(7), Call::Put(6), Call::Put(2), Call::Take,
-        Call::Exchange(1), Call::Exchange(4), Call::Exchange(0), Call::Exchange(9), Call::Take,
+        Call::Put(5),
+        Call::Put(7),
+        Call::Put(6),
+        Call::Put(2),
+        Call::Take,
+        Call::Exchange(1),
+        Call::Exchange(4),
+        Call::Exchange(0),
+        Call::Exchange(9),
+        Call::Take,
     ];
     drive(&rt, &exchanges)?;
     evenings(&rt)

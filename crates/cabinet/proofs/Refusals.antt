@@ -30,9 +30,9 @@ pub zone-decides : (l : Limits) (s : State) (now row bytes : ℕ) (x : Row) (k :
 zone-decides l s now row bytes x k time found set-is good room fits z =
     goes-on _ _ _ _ time
     (goes-on _ _ _ _ (ap (λ r. not (is-set r)) found ∙ ap not set-is)
-      (goes-on _ _ _ _ good
-        (goes-on _ _ _ _ (lt-leb count-limit (s .accepted) room)
-          (goes-on _ _ _ _ (ap (λ r. overruns r now bytes) found ∙ fits) (ap (λ r. zone-refusal (zone-at l s) r now) found ∙ z)))))
+    (goes-on _ _ _ _ good
+    (goes-on _ _ _ _ (lt-leb count-limit (s .accepted) room)
+    (goes-on _ _ _ _ (ap (λ r. overruns r now bytes) found ∙ fits) (ap (λ r. zone-refusal (zone-at l s) r now) found ∙ z)))))
 
 -- a slot is released by the last tick
 pub in-time : (row : Row) (now bytes : ℕ) (slot : Slot) → Given row now bytes slot → slot .release ≤ last-tick

@@ -4,13 +4,11 @@ ghost use mathlib.Core.Bool.{false};
 ghost use mathlib.Core.Path.{_≡_};
 ghost use Rattle.std.specs.Results.{isOk};
 ghost use Rattle.cabinet.specs.Panels.{within-reach, in-bounds, Offers, Shows};
-
+pub use fault::PanelFault;
+pub use fault::PanelFaultFrom;
 use queues::queue::Put;
 use queues::queue::Queue;
 use records::reading::Reading;
-
-pub use fault::PanelFault;
-pub use fault::PanelFaultFrom;
 
 // A panel over a queue of readings: it shows the position of the row that is farthest from its target.
 pub struct Panel<Q> {

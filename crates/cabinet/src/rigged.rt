@@ -3,7 +3,6 @@ ghost use mathlib.Core.Path.{_≡_};
 ghost use Rattle.shows.specs.Histories.{Setting, with-setting, with-settings, unset-rows, History};
 ghost use Rattle.cabinet.specs.Rigging.{Sets};
 ghost use Rattle.cabinet.specs.States.{state-of, limits-of, begun};
-
 use crate::running::RunningShow;
 use queues::queue::Queue;
 use records::telegram::Telegram;

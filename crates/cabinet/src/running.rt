@@ -10,7 +10,6 @@ ghost use mathlib.Core.Path.{_≡_};
 ghost use Prim.Native.Nat.{_<_};
 ghost use Rattle.shows.specs.Calls.{bad-time, early, one-more};
 ghost use Rattle.cabinet.specs.States.{state-of, begun, moved-on};
-
 use crate::slot::LAST_TICK;
 use queues::queue::Queue;
 use records::telegram::Telegram;

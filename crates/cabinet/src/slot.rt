@@ -3,7 +3,6 @@ ghost use mathlib.Core.Path.{_≡_};
 ghost use Prim.Native.Nat.{_≤_};
 ghost use Rattle.shows.specs.Timing.{pace-of, burst-of, bad-length as length-is-bad};
 ghost use Rattle.cabinet.specs.Slots.{Gives};
-
 use shows::row::Row;
 
 // The last tick: no now lies past it, and no row is busy past it.

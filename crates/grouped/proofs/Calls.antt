@@ -1,23 +1,22 @@
 -- What each call of a grouped queue does: the queue's words for a step over settled cells.
-use mathlib.Core.Path.{_≡_, refl, sym, ap, subst, _∙_}
-use mathlib.Core.Bool.{Bool, true, false, cond}
+use mathlib.Core.Path.{_≡_, sym, ap, subst, _∙_}
+use mathlib.Core.Bool.{Bool, true, cond}
 use mathlib.Core.List.{List, [], _∷_}
 use mathlib.Core.Logic.{⊎-elim}
 use Prim.Native.Nat.{ℕ, _+_, _-_, _*_, _<_, _≤_}
 use native.Mathlib.Omega.{arith}
 use lib.ListN.{length, getD, take, drop, replicate}
-use Rattle.std.specs.shelf.Lists.{All}
 use Rattle.std.proofs.shelf.Tests.{both-ways, cases-lt}
 use Rattle.std.proofs.shelf.Lists.{refilled-is, getD-read-under, getD-replicate, getD-past, length-replicate}
 use Rattle.std.proofs.shelf.Elements.{all-from-getD}
 use Rattle.std.specs.Changed.{refilled}
-use Rattle.std.specs.Of.Vec.{vec-items, vec-len}
+use Rattle.std.specs.Of.Vec.{vec-len}
 use Rattle.std.specs.declared.result.Result.the-variants.{Ok, Err}
 use Rattle.records.specs.Linear.{Linear}
 use Rattle.records.specs.Sorting.{insert, sort, Filled}
 use Rattle.records.proofs.Sorting.{length-insert}
-use Rattle.queues.specs.Queues.{Lawful, Same-limits, Puts, Takes, Exchanges, first-of}
-use Rattle.queues.specs.Cells.{held-in, put-answer, take-answer, exchange-answer}
+use Rattle.queues.specs.Queues.{Lawful, Same-limits, Puts, Takes, Exchanges}
+use Rattle.queues.specs.Cells.{held-in, take-answer}
 use Rattle.queues.specs.declared.queue.Put.the-variants.{Kept, Displaced}
 use Rattle.queues.specs.declared.fault.QueueFault.the-variants.{Empty, Blank}
 use Rattle.queues.proofs.Cells as queue

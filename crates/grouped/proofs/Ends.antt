@@ -3,7 +3,7 @@ use mathlib.Core.Path.{_≡_, refl, sym, ap, subst, _∙_}
 use mathlib.Core.Bool.{Bool, true, false, cond}
 use mathlib.Core.List.{List, [], _∷_, _++_}
 use mathlib.Core.Logic.{⊎-elim}
-use Prim.Native.Nat.{ℕ, zero, suc, _+_, _-_, _*_, _<_, _≤_}
+use Prim.Native.Nat.{ℕ, zero, suc, _+_, _-_, _*_, _≤_}
 use native.Mathlib.Nat.{suc-mul, zero-mul}
 use native.Mathlib.Omega.{arith}
 use lib.ListN.{length, getD, take, drop}
@@ -16,7 +16,7 @@ use Rattle.records.specs.Sorting.{Ascending, Filled, later-than}
 use Rattle.records.proofs.Sorting.{le-refl}
 use Rattle.grouped.specs.Steps.{groups-of, flat, A-of, S-of, Z-of}
 use Rattle.grouped.proofs.Parts.{parts, stands-A, stands-Z}
-use Rattle.grouped.proofs.Keeps.{Sound, below, A-next}
+use Rattle.grouped.proofs.Keeps.{Sound, below}
 use Rattle.grouped.proofs.Means.{last-Z}
 
 module _ {R : Type 0} (le : R → R → Bool) (z : R) where

@@ -1,16 +1,14 @@
 -- What each step keeps: groups of n cells that ascend, each joined to the next.
-use mathlib.Core.Path.{_≡_, refl, sym, ap, subst, _∙_}
+use mathlib.Core.Path.{_≡_, refl, sym, subst}
 use mathlib.Core.Bool.{Bool, true, false, cond}
-use mathlib.Core.List.{List, [], _∷_, _++_}
-use mathlib.Core.Logic.{⊎-elim}
-use Prim.Native.Nat.{ℕ, _+_, _-_, _<_, _≤_}
+use mathlib.Core.List.{List, [], _∷_}
+use Prim.Native.Nat.{ℕ, _-_, _≤_}
 use native.Mathlib.Omega.{arith}
-use lib.ListN.{length, getD, take, drop}
+use lib.ListN.{length, take}
 use Rattle.std.specs.shelf.Lists.{All}
-use Rattle.std.proofs.shelf.Tests.{cases-bool}
 use Rattle.std.proofs.shelf.Elements.{all-weaker, all-getD}
 use Rattle.records.specs.Linear.{Linear}
-use Rattle.records.specs.Sorting.{insert, sort, Ascending, earlier, later}
+use Rattle.records.specs.Sorting.{insert, Ascending, earlier, later}
 use Rattle.records.proofs.Sorting.{length-insert, all-insert, ascending-insert, le-refl, other-way}
 use Rattle.grouped.specs.Steps.{A-of, S-of, Z-of, next-A, put-groups, take-groups, exchange-groups}
 use Rattle.grouped.proofs.Lists.{all-both, front-insert}
@@ -98,9 +96,10 @@ module _ {R : Type 0} (le : R → R → Bool) (l : Linear le) (d : R) (ends : (x
   low-above g h hs e a j =
       let b = below g h hs e j in
       let Z = Z-of d n g in
-      let B = A-of d h in
-      (to-earlier _ Z B (stands-A d n two le g e a .1) (b .0),
-      all-both (λ y. le y Z ≡ true) (λ y. le y B ≡ true) (λ y. le y (earlier le Z B) ≡ true) (λ y p q. to-earlier y Z B p q) (S-of n g) (stands-Z d n two le g e a .1) (b .1))
+      let B = A-of d h in (
+        to-earlier _ Z B (stands-A d n two le g e a .1) (b .0),
+        all-both (λ y. le y Z ≡ true) (λ y. le y B ≡ true) (λ y. le y (earlier le Z B) ≡ true) (λ y p q. to-earlier y Z B p q) (S-of n g) (stands-Z d n two le g e a .1) (b .1),
+      )
 
   -- what stands no later than A stands no later than S
   to-S : (v : R) (h : List R) → length h ≡ n → Ascending le h → le v (A-of d h) ≡ true → All (λ y. le v y ≡ true) (S-of n h)

@@ -1,5 +1,5 @@
 -- Ascending lists: their parts, what a sort does to a list in parts, and the front of a list with a newcomer.
-use mathlib.Core.Path.{_≡_, refl, sym, ap, subst, _∙_}
+use mathlib.Core.Path.{_≡_, refl, ap, _∙_}
 use mathlib.Core.Bool.{Bool, true, false, cond}
 use mathlib.Core.List.{List, [], _∷_, _++_}
 use mathlib.Core.Logic.{⊎-elim}
@@ -8,7 +8,7 @@ use native.Mathlib.Omega.{arith}
 use lib.ListN.{length, getD, take, drop}
 use Rattle.std.specs.shelf.Lists.{All}
 use Rattle.std.proofs.shelf.Tests.{cases-bool}
-use Rattle.std.proofs.shelf.Elements.{all-take, all-append, all-weaker, all-from-getD, all-getD}
+use Rattle.std.proofs.shelf.Elements.{all-take, all-from-getD, all-getD}
 use Rattle.records.specs.Linear.{Linear}
 use Rattle.records.specs.Sorting.{insert, sort, Ascending}
 use Rattle.records.proofs.Sorting.{insert-insert}
@@ -43,9 +43,10 @@ module _ {R : Type 0} (le : R → R → Bool) where
   -- ascending by places, and back
   pub ascending-from : (d : R) (xs : List R) → ((k l : ℕ) → k < l → l < length xs → le (getD xs k d) (getD xs l d) ≡ true) → Ascending le xs
   ascending-from d [] f = tt
-  ascending-from d (x ∷ xs) f =
-      (all-from-getD (λ y. le x y ≡ true) xs d (λ i h. f 0 (suc i) (omega arith) (omega arith)),
-      ascending-from d xs (λ k l h i. f (suc k) (suc l) (omega arith) (omega arith)))
+  ascending-from d (x ∷ xs) f = (
+    all-from-getD (λ y. le x y ≡ true) xs d (λ i h. f 0 (suc i) (omega arith) (omega arith)),
+    ascending-from d xs (λ k l h i. f (suc k) (suc l) (omega arith) (omega arith)),
+  )
 
   pub ascending-at : (d : R) (xs : List R) → Ascending le xs → (k l : ℕ) → k < l → l < length xs → le (getD xs k d) (getD xs l d) ≡ true
   ascending-at d [] a k l h i = absurd (omega arith)

@@ -2,8 +2,8 @@
 use mathlib.Core.Path.{_≡_, refl, sym, ap, subst, _∙_}
 use mathlib.Core.Bool.{Bool, true, false, cond}
 use mathlib.Core.List.{List, [], _∷_, _++_}
-use Prim.Native.Nat.{ℕ, _+_, _-_, _<_, _≤_}
-use lib.ListN.{length, getD, take, drop}
+use Prim.Native.Nat.{ℕ, _+_, _-_, _≤_}
+use lib.ListN.{length, drop}
 use Rattle.std.specs.shelf.Lists.{All}
 use Rattle.std.proofs.shelf.Lists.{append-assoc}
 use Rattle.std.proofs.shelf.Elements.{all-append, all-weaker}
@@ -13,7 +13,7 @@ use Rattle.records.proofs.Sorting.{insert-insert, insert-first}
 use Rattle.queues.proofs.Cells.{all-sort}
 use Rattle.grouped.specs.Steps.{flat, A-of, S-of, Z-of, next-A, put-groups, take-groups, exchange-groups}
 use Rattle.grouped.proofs.Lists.{sort-tail, sort-middle, sort-sorted}
-use Rattle.grouped.proofs.Parts.{A-rest, S-Z, parts, group-S-Z, group-A, stands-A}
+use Rattle.grouped.proofs.Parts.{A-rest, group-S-Z, group-A}
 use Rattle.grouped.proofs.Keeps.{Sound, A-next}
 
 -- Z of the last group, z where there is none

@@ -1,13 +1,13 @@
 -- The steps of m groups of n cells, from cells to cells: what they keep, and what they mean.
 use mathlib.Core.Path.{_≡_, refl, sym, ap, subst, _∙_}
-use mathlib.Core.Bool.{Bool, true, false, cond}
+use mathlib.Core.Bool.{Bool, true}
 use mathlib.Core.List.{List, [], _∷_, _++_}
 use Prim.Native.Nat.{ℕ, zero, suc, _+_, _-_, _*_, _<_, _≤_}
 use native.Mathlib.Omega.{arith}
 use lib.ListN.{length, getD, take, drop}
 use Rattle.std.specs.shelf.Lists.{All}
 use Rattle.std.proofs.shelf.Tests.{both-ways}
-use Rattle.std.proofs.shelf.Lists.{getD-take, length-take-le, take-more, take-all, append-nil, drop-append-le}
+use Rattle.std.proofs.shelf.Lists.{getD-take, take-more, take-all, append-nil, drop-append-le}
 use Rattle.records.specs.Linear.{Linear}
 use Rattle.records.specs.Sorting.{insert, sort, later, later-than, Filled}
 use Rattle.grouped.specs.Steps.{groups-of, flat, A-of, Z-of, next-A, put-groups, take-groups, exchange-groups, put-cells, take-cells, exchange-cells}

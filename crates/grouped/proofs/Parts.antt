@@ -2,14 +2,14 @@
 use mathlib.Core.Path.{_≡_, refl, sym, ap, subst, _∙_}
 use mathlib.Core.Bool.{Bool, true}
 use mathlib.Core.List.{List, [], _∷_, _++_}
-use Prim.Native.Nat.{ℕ, zero, suc, _+_, _-_, _<_, _≤_}
+use Prim.Native.Nat.{ℕ, suc, _+_, _-_, _<_, _≤_}
 use native.Mathlib.Omega.{arith}
-use lib.ListN.{length, getD, take, drop}
+use lib.ListN.{length, take, drop}
 use Rattle.std.specs.shelf.Lists.{All}
 use Rattle.std.proofs.shelf.Lists.{take-more, take-all, length-take-le, length-drop, append-assoc, append-nil}
 use Rattle.records.specs.Linear.{Linear}
 use Rattle.records.specs.Sorting.{insert, sort, Ascending}
-use Rattle.records.proofs.Sorting.{sort-ascending, insert-first, insert-insert}
+use Rattle.records.proofs.Sorting.{sort-ascending}
 use Rattle.grouped.specs.Steps.{A-of, S-of, Z-of}
 use Rattle.grouped.proofs.Lists.{all-append-back, ascending-push, ascending-tail, ascending-take, sort-middle}
 

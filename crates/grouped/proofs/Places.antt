@@ -48,21 +48,24 @@ module _ {R : Type 0} (le : R → R → Bool) (l : Linear le) (d : R) (n : ℕ) 
         let lr = length-row m n i E sizes h in
         let lt = length-take-le (n - 1) (row n i E) (omega arith) in
         let first = row-at d n (i + 1) 0 E p in
-        let end = row-at d n i (n - 1) E q in
-        (all-from-getD (λ y. le y (A-of d (row n (i + 1) E)) ≡ true) (take (n - 1) (row n i E)) d (λ j b.
-          let near : j < n - 1 = omega arith in
-          let at = getD-take (n - 1) (row n i E) j d near ∙ row-at d n i j E (omega arith) in
-          subst (λ v. le v (A-of d (row n (i + 1) E)) ≡ true) (sym at) (subst (λ v. le (cell d n E i j) v ≡ true) (sym first) (staggers i j h′ (omega arith)))),
-        λ t. subst (λ v. le d v ≡ true) (sym first) (packs i (i + 1) (n - 1) 0 (omega arith) h′ q p (subst (λ v. le d v ≡ true) end t)))
+        let end = row-at d n i (n - 1) E q in (
+          all-from-getD (λ y. le y (A-of d (row n (i + 1) E)) ≡ true) (take (n - 1) (row n i E)) d (λ j b.
+              let near : j < n - 1 = omega arith in
+              let at = getD-take (n - 1) (row n i E) j d near ∙ row-at d n i j E (omega arith) in
+              subst (λ v. le v (A-of d (row n (i + 1) E)) ≡ true) (sym at) (subst (λ v. le (cell d n E i j) v ≡ true) (sym first) (staggers i j h′ (omega arith)))),
+          λ t. subst (λ v. le d v ≡ true) (sym first) (packs i (i + 1) (n - 1) 0 (omega arith) h′ q p (subst (λ v. le d v ≡ true) end t)),
+        )
 
     sound-from : (k i : ℕ) → k + i ≡ m → Sound le d n (groups-of k n (drop (i * n) E))
     sound-from zero i e = tt
     sound-from (suc k) i e =
         let h : i < m = omega arith in
-        let on : drop n (drop (i * n) E) ≡ drop ((i + 1) * n) E = drop-drop n (i * n) E ∙ ap (λ v. drop v E) (sym (row-next i n)) in
-        (length-row m n i E sizes h, row-ascends le d m n i E sizes ascends h,
-        subst (λ v. Joined le d n (row n i E) (groups-of k n v)) (sym on) (joined-from k i e),
-        subst (λ v. Sound le d n (groups-of k n v)) (sym on) (sound-from k (i + 1) (omega arith)))
+        let on : drop n (drop (i * n) E) ≡ drop ((i + 1) * n) E = drop-drop n (i * n) E ∙ ap (λ v. drop v E) (sym (row-next i n)) in (
+          length-row m n i E sizes h,
+          row-ascends le d m n i E sizes ascends h,
+          subst (λ v. Joined le d n (row n i E) (groups-of k n v)) (sym on) (joined-from k i e),
+          subst (λ v. Sound le d n (groups-of k n v)) (sym on) (sound-from k (i + 1) (omega arith)),
+        )
 
     pub groups-sound : Sound le d n (groups-of m n E)
     groups-sound = subst (λ v. Sound le d n (groups-of m n (drop v E))) (zero-mul n) (sound-from m 0 (omega arith))
@@ -112,8 +115,8 @@ module _ {R : Type 0} (le : R → R → Bool) (l : Linear le) (d : R) (n : ℕ) 
         ⊎-elim
         (λ (e : k ≡ n - 1). subst (λ v. le d (getD (row n i E) v d) ≡ true) e t)
         (⊎-elim
-          (λ (b : k < n - 1). l .trans d _ _ t (ascending-at le d (row n i E) (at-row i h .1) k (n - 1) b (omega arith)))
-          (λ (b : n - 1 < k). absurd (omega arith)))
+        (λ (b : k < n - 1). l .trans d _ _ t (ascending-at le d (row n i E) (at-row i h .1) k (n - 1) b (omega arith)))
+        (λ (b : n - 1 < k). absurd (omega arith)))
         (cases-order k (n - 1))
 
     pub groups-pack : Packs le d m n E

@@ -1,17 +1,15 @@
 -- Cells and their groups: the cells of group i, and what is left from it on.
-use mathlib.Core.Path.{_≡_, refl, sym, ap, subst, _∙_}
+use mathlib.Core.Path.{_≡_, sym, ap, subst, _∙_}
 use mathlib.Core.Bool.{Bool, true}
-use mathlib.Core.List.{List, [], _∷_, _++_}
+use mathlib.Core.List.{List, _∷_, _++_}
 use Prim.Native.Nat.{ℕ, zero, suc, _+_, _-_, _*_, _<_, _≤_}
 use native.Mathlib.Nat.{mul-le-mul-right, suc-mul, zero-mul, add-mul, one-mul}
 use native.Mathlib.Omega.{arith}
 use lib.ListN.{length, getD, take, drop}
-use Rattle.std.specs.shelf.Lists.{All}
 use Rattle.std.proofs.shelf.Lists.{drop-drop, getD-take, getD-drop, length-take-le, length-drop, take-append-drop, nil-from-length}
 use Rattle.records.specs.Sorting.{Ascending}
 use Rattle.grouped.specs.Facts.{cell, Ascends}
-use Rattle.grouped.specs.Shapes.{Fits}
-use Rattle.grouped.specs.Steps.{groups-of, flat, A-of, next-A}
+use Rattle.grouped.specs.Steps.{groups-of, flat, next-A}
 use Rattle.grouped.proofs.Lists.{ascending-from}
 
 pub row-end : (i m n : ℕ) → i < m → i * n + n ≤ m * n
@@ -48,9 +46,9 @@ pub row-ascends : {R : Type 0} (le : R → R → Bool) (d : R) (m n i : ℕ) (E 
 row-ascends le d m n i E e f h =
     let s = length-row m n i E e h in
     ascending-from le d (row n i E) (λ k l p q.
-      let lt : l < n = omega arith in
-      let kt : k < n = omega arith in
-      subst (λ v. le v (getD (row n i E) l d) ≡ true) (sym (row-at d n i k E kt)) (subst (λ v. le (cell d n E i k) v ≡ true) (sym (row-at d n i l E lt)) (f i k l h p lt)))
+    let lt : l < n = omega arith in
+    let kt : k < n = omega arith in
+    subst (λ v. le v (getD (row n i E) l d) ≡ true) (sym (row-at d n i k E kt)) (subst (λ v. le (cell d n E i k) v ≡ true) (sym (row-at d n i l E lt)) (f i k l h p lt)))
 
 -- A of the group after group i
 pub next-is : {R : Type 0} (d : R) (m n i : ℕ) (E : List R) → i + 1 < m → 2 ≤ n → next-A d (rows m n (i + 1) E) ≡ getD E ((i + 1) * n) d

@@ -1,8 +1,8 @@
 -- A turn of a step's loop: group i is as it will be, and the rest as it was.
-use mathlib.Core.Path.{_≡_, refl, sym, ap, subst, _∙_}
-use mathlib.Core.Bool.{Bool, true}
-use mathlib.Core.List.{List, [], _∷_, _++_}
-use Prim.Native.Nat.{ℕ, zero, suc, _+_, _-_, _*_, _<_, _≤_}
+use mathlib.Core.Path.{_≡_, sym, ap, subst, _∙_}
+use mathlib.Core.Bool.{Bool}
+use mathlib.Core.List.{List, [], _++_}
+use Prim.Native.Nat.{ℕ, _+_, _-_, _*_, _<_, _≤_}
 use native.Mathlib.Omega.{arith}
 use lib.ListN.{length, getD, take, drop}
 use borrow.Rule.Slice.PartMut.{putMid}
@@ -84,8 +84,8 @@ module _ {R : Type 0} (le : R → R → Bool) (l : Linear le) (d : R) (m n i : �
     pub put-turn : (z r : R) → g ≡ insert le z (take (length part - 1) part) → r ≡ getD part (length part - 1) d
         → take (i * n) cells ++ flat (put-groups le d n z (rows m n i E)) ≡ all
         → (take ((i + 1) * n) (putMid (i * n) (i * n + n - i * n) cells g) ++ flat (put-groups le d n r (rows m n (i + 1) E)) ≡ all)
-          × (drop ((i + 1) * n) (putMid (i * n) (i * n + n - i * n) cells g) ≡ drop ((i + 1) * n) E)
-          × (r ≡ getD E ((i + 1) * n - 1) d)
+        × (drop ((i + 1) * n) (putMid (i * n) (i * n + n - i * n) cells g) ≡ drop ((i + 1) * n) E)
+        × (r ≡ getD E ((i + 1) * n - 1) d)
     put-turn z r eg er inv =
         let lp = part-length in
         let lr = length-row m n i E sizes h in
@@ -106,7 +106,7 @@ module _ {R : Type 0} (le : R → R → Bool) (l : Linear le) (d : R) (m n i : �
     pub take-turn : (x : R) → x ≡ next-A d (rows m n (i + 1) cells) → g ≡ insert le x (drop 1 part)
         → take (i * n) cells ++ flat (take-groups le d n (rows m n i E)) ≡ all
         → (take ((i + 1) * n) (putMid (i * n) (i * n + n - i * n) cells g) ++ flat (take-groups le d n (rows m n (i + 1) E)) ≡ all)
-          × (drop ((i + 1) * n) (putMid (i * n) (i * n + n - i * n) cells g) ≡ drop ((i + 1) * n) E)
+        × (drop ((i + 1) * n) (putMid (i * n) (i * n + n - i * n) cells g) ≡ drop ((i + 1) * n) E)
     take-turn x ex eg inv =
         let x1 : x ≡ next-A d (rows m n (i + 1) E) = ex ∙ ap (λ v. next-A d (groups-of (m - (i + 1)) n v)) (rest-is m n i E cells lc h rest) in
         let g1 : g ≡ insert le (next-A d (rows m n (i + 1) E)) (drop 1 (row n i E)) = eg ∙ ap (λ v. insert le v (drop 1 part)) x1 ∙ ap (λ v. insert le (next-A d (rows m n (i + 1) E)) (drop 1 v)) part-row in
@@ -119,7 +119,7 @@ module _ {R : Type 0} (le : R → R → Bool) (l : Linear le) (d : R) (m n i : �
     pub exchange-turn : (a x y low high : R) → x ≡ next-A d (rows m n (i + 1) cells) → y ≡ getD cells (i * n + n - 1) d → low ≡ earlier le y x → high ≡ later le y x → g ≡ insert le a (insert le low (S-of (length part) part))
         → take (i * n) cells ++ flat (exchange-groups le d n a (rows m n i E)) ≡ all
         → (take ((i + 1) * n) (putMid (i * n) (i * n + n - i * n) cells g) ++ flat (exchange-groups le d n high (rows m n (i + 1) E)) ≡ all)
-          × (drop ((i + 1) * n) (putMid (i * n) (i * n + n - i * n) cells g) ≡ drop ((i + 1) * n) E)
+        × (drop ((i + 1) * n) (putMid (i * n) (i * n + n - i * n) cells g) ≡ drop ((i + 1) * n) E)
     exchange-turn a x y low high ex ey el eh eg inv =
         let B = next-A d (rows m n (i + 1) E) in
         let Z = Z-of d n (row n i E) in

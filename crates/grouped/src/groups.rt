@@ -7,15 +7,14 @@ ghost use Rattle.std.specs.Results.{isOk};
 ghost use Rattle.queues.specs.Cells.{put-answer, take-answer, exchange-answer};
 ghost use Rattle.queues.specs.Queues.{Puts, Takes, Exchanges, first-of, told};
 ghost use Rattle.grouped.specs.Queues.{cells-of, first-cell, last-cell, after-put, after-take, after-exchange, groups-held, groups-room, groups-slack, Settled};
-
 use crate::shape::GroupCells;
 use crate::steps::exchange_step;
 use crate::steps::put_step;
 use crate::steps::take_step;
 use queues::fault::QueueFault;
 use queues::queue::Put;
-use records::record::is_blank;
 use records::record::Record;
+use records::record::is_blank;
 
 // Sets each cell blank.
 fn blank_all<R: Record>(cells: &mut [R])
@@ -98,7 +97,12 @@ impl<R: Record> Groups<R> {
         if is_blank(&self.over.cells[0]) {
             return Err(QueueFault::Empty);
         }
-        Ok(exchange_step(&mut self.over.cells, self.over.groups, self.over.size, newcomer))
+        Ok(exchange_step(
+            &mut self.over.cells,
+            self.over.groups,
+            self.over.size,
+            newcomer,
+        ))
     }
 
     // The first record, where there is one.
@@ -145,7 +149,11 @@ impl<R: Record> Groups<R> {
         ensures { λ r. ⌜ r ≡ self .over .cells ⌝ }
     {
         let Groups { over, held: _held } = self;
-        let GroupCells { cells, groups: _groups, size: _size } = over;
+        let GroupCells {
+            cells,
+            groups: _groups,
+            size: _size,
+        } = over;
         cells
     }
 }

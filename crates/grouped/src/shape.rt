@@ -4,7 +4,6 @@ ghost use Rattle.std.specs.Results.{Cases};
 ghost use Rattle.std.specs.Of.Vec.{vec-len};
 ghost use Rattle.queues.specs.declared.fault.QueueFault.the-variants.{Shape};
 ghost use Rattle.grouped.specs.Shapes.{Fits};
-
 use queues::fault::QueueFault;
 
 // Cells of the right number for so many groups of so many cells each, in one piece, the first
@@ -38,6 +37,10 @@ impl<R: Drop> GroupCells<R> {
         if cells.len() != groups * size {
             return Err(QueueFault::Shape);
         }
-        Ok(GroupCells { cells, groups, size })
+        Ok(GroupCells {
+            cells,
+            groups,
+            size,
+        })
     }
 }

@@ -1,13 +1,12 @@
 // The steps of a grouped queue over lent cells of any record kind: so many groups of so many cells,
 // the first group's first. What they ask of the cells the queue types above keep.
 ghost use mathlib.Core.Path.{_≡_};
-ghost use Prim.Native.Nat.{ℕ, _+_, _-_, _*_, _<_, _≤_};
+ghost use Prim.Native.Nat.{_+_, _-_, _*_, _<_, _≤_};
 ghost use lib.ListN.{length, getD, drop};
 ghost use Rattle.records.specs.Sorting.{insert, Ascending, earlier, later};
 ghost use Rattle.grouped.specs.Facts.{Ascends};
 ghost use Rattle.grouped.specs.Shapes.{Fits};
 ghost use Rattle.grouped.specs.Steps.{groups-of, next-A, S-of, put-cells, take-cells, exchange-cells};
-
 use records::cells::replace_first;
 use records::cells::replace_last;
 use records::record::Record;
@@ -33,7 +32,11 @@ fn next_first<R: Record>(cells: &[R], groups: usize, size: usize, i: usize) -> R
     requires inside { ⌜ i < groups ⌝ }
     ensures { λ r. ⌜ r ≡ next-A last (groups-of (groups - (i + 1)) size (drop ((i + 1) * size) (now (cells .entry)))) ⌝ }
 {
-    if i + 1 < groups { cells[(i + 1) * size] } else { R::blank() }
+    if i + 1 < groups {
+        cells[(i + 1) * size]
+    } else {
+        R::blank()
+    }
 }
 
 // Lets the first record go: each group takes the first record of the next group in.

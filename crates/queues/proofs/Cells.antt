@@ -46,18 +46,18 @@ module _ {R : Type 0} (le : R → R → Bool) where
   insert-same s x (a ∷ as′) (b ∷ bs) e =
       ⊎-elim
       (λ (t : le x a ≡ true). ⊎-elim
-          (λ (u : le x b ≡ true). let k : x ∷ a ∷ as′ ≡ x ∷ b ∷ bs = sym (cond-true (le x a) (x ∷ a ∷ as′) (a ∷ insert le x as′) t) ∙ e ∙ cond-true (le x b) (x ∷ b ∷ bs) (b ∷ insert le x bs) u in cc)
-          (λ (u : le x b ≡ false). let k : x ∷ a ∷ as′ ≡ b ∷ insert le x bs = sym (cond-true (le x a) (x ∷ a ∷ as′) (a ∷ insert le x as′) t) ∙ e ∙ insert-past le x b bs u in
-              let h : x ≡ b = cc in absurd (both-ways (le x b) u (subst (λ v. le x v ≡ true) h (s x))))
-          (cases-bool (le x b)))
+      (λ (u : le x b ≡ true). let k : x ∷ a ∷ as′ ≡ x ∷ b ∷ bs = sym (cond-true (le x a) (x ∷ a ∷ as′) (a ∷ insert le x as′) t) ∙ e ∙ cond-true (le x b) (x ∷ b ∷ bs) (b ∷ insert le x bs) u in cc)
+      (λ (u : le x b ≡ false). let k : x ∷ a ∷ as′ ≡ b ∷ insert le x bs = sym (cond-true (le x a) (x ∷ a ∷ as′) (a ∷ insert le x as′) t) ∙ e ∙ insert-past le x b bs u in
+      let h : x ≡ b = cc in absurd (both-ways (le x b) u (subst (λ v. le x v ≡ true) h (s x))))
+      (cases-bool (le x b)))
       (λ (t : le x a ≡ false). ⊎-elim
-          (λ (u : le x b ≡ true). let k : a ∷ insert le x as′ ≡ x ∷ b ∷ bs = sym (insert-past le x a as′ t) ∙ e ∙ cond-true (le x b) (x ∷ b ∷ bs) (b ∷ insert le x bs) u in
-              let h : x ≡ a = cc in absurd (both-ways (le x a) t (subst (λ v. le x v ≡ true) h (s x))))
-          (λ (u : le x b ≡ false). let k : a ∷ insert le x as′ ≡ b ∷ insert le x bs = sym (insert-past le x a as′ t) ∙ e ∙ insert-past le x b bs u in
-              let h : a ≡ b = cc in
-              let i : insert le x as′ ≡ insert le x bs = cc in
-              let j = insert-same s x as′ bs i in cc)
-          (cases-bool (le x b)))
+      (λ (u : le x b ≡ true). let k : a ∷ insert le x as′ ≡ x ∷ b ∷ bs = sym (insert-past le x a as′ t) ∙ e ∙ cond-true (le x b) (x ∷ b ∷ bs) (b ∷ insert le x bs) u in
+      let h : x ≡ a = cc in absurd (both-ways (le x a) t (subst (λ v. le x v ≡ true) h (s x))))
+      (λ (u : le x b ≡ false). let k : a ∷ insert le x as′ ≡ b ∷ insert le x bs = sym (insert-past le x a as′ t) ∙ e ∙ insert-past le x b bs u in
+      let h : a ≡ b = cc in
+      let i : insert le x as′ ≡ insert le x bs = cc in
+      let j = insert-same s x as′ bs i in cc)
+      (cases-bool (le x b)))
       (cases-bool (le x a))
 
   -- ---- the records among the cells
@@ -105,11 +105,11 @@ module _ {R : Type 0} (le : R → R → Bool) where
       insert-filled x (y ∷ ys) f a =
           ⊎-elim
           (λ (t : le x y ≡ true).
-              let far : All (λ w. le x w ≡ true) (y ∷ ys) = (t, above le l x y ys t (a .0)) in
-              ap kept (insert-first le x (y ∷ ys) far) ∙ kept-first x (y ∷ ys) f ∙ sym (insert-first le x (kept (y ∷ ys)) (all-kept-by (λ w. not (le blank w)) (λ w. le x w ≡ true) (y ∷ ys) far)))
+          let far : All (λ w. le x w ≡ true) (y ∷ ys) = (t, above le l x y ys t (a .0)) in
+          ap kept (insert-first le x (y ∷ ys) far) ∙ kept-first x (y ∷ ys) f ∙ sym (insert-first le x (kept (y ∷ ys)) (all-kept-by (λ w. not (le blank w)) (λ w. le x w ≡ true) (y ∷ ys) far)))
           (λ (n : le x y ≡ false).
-              let yf : Filled le blank y = ⊎-elim (λ (s : le blank y ≡ true). absurd (both-ways (le blank x) f (l .trans blank y x s (other-way le l x y n)))) (λ (s : le blank y ≡ false). s) (cases-bool (le blank y)) in
-              ap kept (insert-past le x y ys n) ∙ kept-first y (insert le x ys) yf ∙ ap (λ v. y ∷ v) (insert-filled x ys f (a .1)) ∙ sym (insert-past le x y (kept ys) n) ∙ ap (insert le x) (sym (kept-first y ys yf)))
+          let yf : Filled le blank y = ⊎-elim (λ (s : le blank y ≡ true). absurd (both-ways (le blank x) f (l .trans blank y x s (other-way le l x y n)))) (λ (s : le blank y ≡ false). s) (cases-bool (le blank y)) in
+          ap kept (insert-past le x y ys n) ∙ kept-first y (insert le x ys) yf ∙ ap (λ v. y ∷ v) (insert-filled x ys f (a .1)) ∙ sym (insert-past le x y (kept ys) n) ∙ ap (insert le x) (sym (kept-first y ys yf)))
           (cases-bool (le x y))
 
       -- what is held in any cells is as a queue holds it
@@ -154,15 +154,15 @@ module _ {R : Type 0} (le : R → R → Bool) where
                 ⊎-elim
                 (λ (t : le blank x ≡ true). subst (λ v. Exchanges le blank (held-in le blank) (λ _. room) (λ _. slack) old x v new) (sym (cond-true (le blank x) (Err Blank) (take-answer le blank a) t)) (inl (is-blank x t, refl), same-blank t))
                 (λ (f : le blank x ≡ false).
-                    let e = cond-false (le blank x) (Err Blank) (take-answer le blank a) f in
-                    ⊎-elim
-                    (λ (t : le blank a ≡ true). subst (λ v. Exchanges le blank (held-in le blank) (λ _. room) (λ _. slack) old x v new) (sym (e ∙ cond-true (le blank a) (Err Empty) (Ok a) t)) (inr (f, held-none t, refl), same-none t))
-                    (λ (n : le blank a ≡ false).
-                        let ok = e ∙ cond-false (le blank a) (Err Empty) (Ok a) n in
-                        let asc : Ascending le rest = let s : Ascending le (a ∷ rest) = subst (Ascending le) first (ascending-sort le l old) in s .1 in
-                        subst (λ v. Exchanges le blank (held-in le blank) (λ _. room) (λ _. slack) old x v new) (sym ok)
-                        (f, record { rest = kept rest; was = held-some n; is = ap kept (step ok) ∙ insert-filled x rest f asc }, record { room-stays = refl; slack-stays = refl }))
-                    (cases-bool (le blank a)))
+                let e = cond-false (le blank x) (Err Blank) (take-answer le blank a) f in
+                ⊎-elim
+                (λ (t : le blank a ≡ true). subst (λ v. Exchanges le blank (held-in le blank) (λ _. room) (λ _. slack) old x v new) (sym (e ∙ cond-true (le blank a) (Err Empty) (Ok a) t)) (inr (f, held-none t, refl), same-none t))
+                (λ (n : le blank a ≡ false).
+                let ok = e ∙ cond-false (le blank a) (Err Empty) (Ok a) n in
+                let asc : Ascending le rest = let s : Ascending le (a ∷ rest) = subst (Ascending le) first (ascending-sort le l old) in s .1 in
+                subst (λ v. Exchanges le blank (held-in le blank) (λ _. room) (λ _. slack) old x v new) (sym ok)
+                (f, record { rest = kept rest; was = held-some n; is = ap kept (step ok) ∙ insert-filled x rest f asc }, record { room-stays = refl; slack-stays = refl }))
+                (cases-bool (le blank a)))
                 (cases-bool (le blank x))
 
         -- ---- put: x comes in among the cells, and z, one of them, goes out
@@ -195,8 +195,8 @@ module _ {R : Type 0} (le : R → R → Bool) where
               cond-both (le blank z) Kept (Displaced z) (λ v. Puts le blank (held-in le blank) (λ _. room) (λ _. slack) old x (Ok v) new)
               (λ t. (rx, free-below t, sym (insert-free z (sort le new) t) ∙ ap kept step ∙ into, record { room-stays = refl; slack-stays = refl }))
               (λ f.
-                  let rest = kept (sort le front) in
-                  let was : held-in le blank old ≡ insert le z rest = held-old ∙ cond-false (le blank z) rest (insert le z rest) f in
-                  let both : insert le z (held-in le blank new) ≡ insert le z (insert le x rest) = sym (insert-filled z (sort le new) f (ascending-sort le l new)) ∙ ap kept step ∙ into ∙ ap (insert le x) was ∙ insert-insert le l x z rest in
-                  let same : later-than le z (held-in le blank old) ≡ later-than le z old = ap (later-than le z) (kept-all (sort le old) (all-sort (Filled le blank) old (full f))) ∙ later-sort z old in
-                  (rx, full-held (full f), record { rest = rest; was = was; is = insert-same (le-refl le l) z (held-in le blank new) (insert le x rest) both; near = subst (λ v. v < slack) (sym same) (near f) }, record { room-stays = refl; slack-stays = refl }))
+              let rest = kept (sort le front) in
+              let was : held-in le blank old ≡ insert le z rest = held-old ∙ cond-false (le blank z) rest (insert le z rest) f in
+              let both : insert le z (held-in le blank new) ≡ insert le z (insert le x rest) = sym (insert-filled z (sort le new) f (ascending-sort le l new)) ∙ ap kept step ∙ into ∙ ap (insert le x) was ∙ insert-insert le l x z rest in
+              let same : later-than le z (held-in le blank old) ≡ later-than le z old = ap (later-than le z) (kept-all (sort le old) (all-sort (Filled le blank) old (full f))) ∙ later-sort z old in
+              (rx, full-held (full f), record { rest = rest; was = was; is = insert-same (le-refl le l) z (held-in le blank new) (insert le x rest) both; near = subst (λ v. v < slack) (sym same) (near f) }, record { room-stays = refl; slack-stays = refl }))

@@ -85,13 +85,17 @@ module _ {R : Type 0} (le : R → R → Bool) (blank : R) where
           let rest = p .2 .rest in
           let near = p .2 .near in
           let far = later-insert le d (s .cell) old in
-          let count = ap (later-than le d) was in
-          (fx, omega arith, record {
-            rest = insert le (s .cell) rest;
-            was = was ∙ ap (insert le (s .cell)) (p .2 .was) ∙ insert-insert le l (s .cell) d rest;
-            is = ap (λ v. with-cell le blank v (held (s′ .below))) ce ∙ filled-cell e (held (s′ .below)) fe ∙ ap (insert le e) (p .2 .is) ∙ pair rest;
-            near = omega arith;
-          }, limits s s′ (p .3))
+          let count = ap (later-than le d) was in (
+            fx,
+            omega arith,
+            record {
+              rest = insert le (s .cell) rest;
+              was = was ∙ ap (insert le (s .cell)) (p .2 .was) ∙ insert-insert le l (s .cell) d rest;
+              is = ap (λ v. with-cell le blank v (held (s′ .below))) ce ∙ filled-cell e (held (s′ .below)) fe ∙ ap (insert le e) (p .2 .is) ∙ pair rest;
+              near = omega arith;
+            },
+            limits s s′ (p .3),
+          )
       put-beside s s′ x e y (Err f) fc fx fe fy pair ce p = absurd (not-blank y fy (p .0))
 
       filled-both : (P : R → Type 0) (b : Bool) (c x : R) → P c → P x → P (cond b c x)
@@ -101,22 +105,22 @@ module _ {R : Type 0} (le : R → R → Bool) (blank : R) where
       side-puts s x r s′ w =
           ⊎-elim
           (λ (t : le blank x ≡ true).
-              let k = rw t at w in
-              subst (λ v. Puts le blank side (side-room room) (side-slack slack) s x v s′) (sym (k .0)) (l .antisym x blank (ends x) t, refl, k .1))
+          let k = rw t at w in
+          subst (λ v. Puts le blank side (side-room room) (side-slack slack) s x v s′) (sym (k .0)) (l .antisym x blank (ends x) t, refl, k .1))
           (λ (fx : le blank x ≡ false). ⊎-elim
-              (λ (t : le blank (s .cell) ≡ true).
-                  let k = rw (fx, t) at w in
-                  let was = free-cell (s .cell) (held (s .below)) t in
-                  let n = ap length was in
-                  let h = lawful (s .below) .within in
-                  let is : side s′ ≡ insert le x (side s) = ap (λ v. with-cell le blank v (held (s′ .below))) (k .1) ∙ filled-cell x (held (s′ .below)) fx ∙ ap (λ q. insert le x (held q)) (k .2) ∙ ap (insert le x) (sym was) in
-                  subst (λ v. Puts le blank side (side-room room) (side-slack slack) s x v s′) (sym (k .0)) (fx, omega arith, is, limits-stay s s′ (k .2)))
-              (λ (fc : le blank (s .cell) ≡ false).
-                  let k = rw (fx, fc) at w in
-                  put-beside s s′ x (earlier le (s .cell) x) (later le (s .cell) x) r fc fx
-                  (filled-both (Filled le blank) (le (s .cell) x) (s .cell) x fc fx) (filled-both (Filled le blank) (le (s .cell) x) x (s .cell) fx fc)
-                  (pair-beside (s .cell) x) (k .0) (k .1))
-              (cases-bool (le blank (s .cell))))
+          (λ (t : le blank (s .cell) ≡ true).
+          let k = rw (fx, t) at w in
+          let was = free-cell (s .cell) (held (s .below)) t in
+          let n = ap length was in
+          let h = lawful (s .below) .within in
+          let is : side s′ ≡ insert le x (side s) = ap (λ v. with-cell le blank v (held (s′ .below))) (k .1) ∙ filled-cell x (held (s′ .below)) fx ∙ ap (λ q. insert le x (held q)) (k .2) ∙ ap (insert le x) (sym was) in
+          subst (λ v. Puts le blank side (side-room room) (side-slack slack) s x v s′) (sym (k .0)) (fx, omega arith, is, limits-stay s s′ (k .2)))
+          (λ (fc : le blank (s .cell) ≡ false).
+          let k = rw (fx, fc) at w in
+          put-beside s s′ x (earlier le (s .cell) x) (later le (s .cell) x) r fc fx
+          (filled-both (Filled le blank) (le (s .cell) x) (s .cell) x fc fx) (filled-both (Filled le blank) (le (s .cell) x) x (s .cell) fx fc)
+          (pair-beside (s .cell) x) (k .0) (k .1))
+          (cases-bool (le blank (s .cell))))
           (cases-bool (le blank x))
 
       -- the cell's record stands before all below
@@ -136,12 +140,15 @@ module _ {R : Type 0} (le : R → R → Bool) (blank : R) where
       exchange-beside s s′ x (Ok r) fc n ce same p =
           let c = s .cell in
           let rest = p .1 .rest in
-          let past : le c r ≡ false = sym (ap (leads le blank c) (p .1 .was)) ∙ n in
-          (p .0, record {
-            rest = insert le c rest;
-            was = filled-cell c (held (s .below)) fc ∙ ap (insert le c) (p .1 .was) ∙ insert-past le c r rest past;
-            is = ap (λ v. with-cell le blank v (held (s′ .below))) ce ∙ filled-cell c (held (s′ .below)) fc ∙ ap (insert le c) (p .1 .is) ∙ insert-insert le l c x rest;
-          }, limits s s′ (p .2))
+          let past : le c r ≡ false = sym (ap (leads le blank c) (p .1 .was)) ∙ n in (
+            p .0,
+            record {
+              rest = insert le c rest;
+              was = filled-cell c (held (s .below)) fc ∙ ap (insert le c) (p .1 .was) ∙ insert-past le c r rest past;
+              is = ap (λ v. with-cell le blank v (held (s′ .below))) ce ∙ filled-cell c (held (s′ .below)) fc ∙ ap (insert le c) (p .1 .is) ∙ insert-insert le l c x rest;
+            },
+            limits s s′ (p .2),
+          )
       exchange-beside s s′ x (Err e) fc n ce same p =
           (⊎-elim inl (λ h. absurd (both-ways (leads le blank (s .cell) (held (s .below))) n (ap (leads le blank (s .cell)) (h .1)))) (p .0), same (p .1))
 
@@ -158,24 +165,27 @@ module _ {R : Type 0} (le : R → R → Bool) (blank : R) where
           let old = held (s .below) in
           ⊎-elim
           (λ (t : le blank x ≡ true).
-              let k = rw t at w in
-              subst (λ v. Exchanges le blank side (side-room room) (side-slack slack) s x v s′) (sym (k .0)) (inl (l .antisym x blank (ends x) t, refl), k .1))
+          let k = rw t at w in
+          subst (λ v. Exchanges le blank side (side-room room) (side-slack slack) s x v s′) (sym (k .0)) (inl (l .antisym x blank (ends x) t, refl), k .1))
           (λ (fx : le blank x ≡ false). ⊎-elim
-              (λ (t : cell-leads le blank c old ≡ true).
-                  let k = rw (fx, t) at w in
-                  let f = cell-filled c old t in
-                  subst (λ v. Exchanges le blank side (side-room room) (side-slack slack) s x v s′) (sym (k .0))
-                  (fx, record {
-                    rest = old;
-                    was = filled-cell c old (f .0) ∙ leads-all c old (lawful (s .below) .ascends) (f .1);
-                    is = ap (λ v. with-cell le blank v (held (s′ .below))) (k .1) ∙ filled-cell x (held (s′ .below)) fx ∙ ap (λ q. insert le x (held q)) (k .2);
-                  }, limits-stay s s′ (k .2)))
-              (λ (n : cell-leads le blank c old ≡ false).
-                  let k = rw (fx, n) at w in
-                  let same : s′ .below ≡ s .below → s′ ≡ s = λ e i. record { cell = k .0 i; below = e i } in
-                  ⊎-elim
-                  (λ (t : le blank c ≡ true). exchange-alone s s′ x r t (k .0) same (k .1))
-                  (λ (f : le blank c ≡ false). exchange-beside s s′ x r f (sym (ap (λ v. not v && leads le blank c old) f) ∙ n) (k .0) same (k .1))
-                  (cases-bool (le blank c)))
-              (cases-bool (cell-leads le blank c old)))
+          (λ (t : cell-leads le blank c old ≡ true).
+          let k = rw (fx, t) at w in
+          let f = cell-filled c old t in
+          subst (λ v. Exchanges le blank side (side-room room) (side-slack slack) s x v s′) (sym (k .0)) (
+            fx,
+            record {
+              rest = old;
+              was = filled-cell c old (f .0) ∙ leads-all c old (lawful (s .below) .ascends) (f .1);
+              is = ap (λ v. with-cell le blank v (held (s′ .below))) (k .1) ∙ filled-cell x (held (s′ .below)) fx ∙ ap (λ q. insert le x (held q)) (k .2);
+            },
+            limits-stay s s′ (k .2),
+          ))
+          (λ (n : cell-leads le blank c old ≡ false).
+          let k = rw (fx, n) at w in
+          let same : s′ .below ≡ s .below → s′ ≡ s = λ e i. record { cell = k .0 i; below = e i } in
+          ⊎-elim
+          (λ (t : le blank c ≡ true). exchange-alone s s′ x r t (k .0) same (k .1))
+          (λ (f : le blank c ≡ false). exchange-beside s s′ x r f (sym (ap (λ v. not v && leads le blank c old) f) ∙ n) (k .0) same (k .1))
+          (cases-bool (le blank c)))
+          (cases-bool (cell-leads le blank c old)))
           (cases-bool (le blank x))

@@ -52,8 +52,8 @@ module _ {R Q : Type 0} (le : R → R → Bool) (blank : R) (held : Q → List R
       When (le blank x)
       ((r ≡ Err Blank) × (s′ ≡ s))
       (When (le blank (s .cell))
-        ((r ≡ Ok Kept) × (s′ .cell ≡ x) × (s′ .below ≡ s .below))
-        ((s′ .cell ≡ earlier le (s .cell) x) × Puts le blank held room slack (s .below) (later le (s .cell) x) r (s′ .below)))
+      ((r ≡ Ok Kept) × (s′ .cell ≡ x) × (s′ .below ≡ s .below))
+      ((s′ .cell ≡ earlier le (s .cell) x) × Puts le blank held room slack (s .below) (later le (s .cell) x) r (s′ .below)))
 
   -- take: whichever holds the first record gives it up
   abbrev pub Side-takes : SideCell R Q → Result R QueueFault → SideCell R Q → Type 0
@@ -68,5 +68,5 @@ module _ {R Q : Type 0} (le : R → R → Bool) (blank : R) (held : Q → List R
       When (le blank x)
       ((r ≡ Err Blank) × (s′ ≡ s))
       (When (cell-leads le blank (s .cell) (held (s .below)))
-        ((r ≡ Ok (s .cell)) × (s′ .cell ≡ x) × (s′ .below ≡ s .below))
-        ((s′ .cell ≡ s .cell) × Exchanges le blank held room slack (s .below) x r (s′ .below)))
+      ((r ≡ Ok (s .cell)) × (s′ .cell ≡ x) × (s′ .below ≡ s .below))
+      ((s′ .cell ≡ s .cell) × Exchanges le blank held room slack (s .below) x r (s′ .below)))

@@ -4,7 +4,6 @@ ghost use Prim.Native.Nat.{ℕ};
 ghost use lib.Dec.{eqb};
 ghost use lib.ListN.{length};
 ghost use Rattle.queues.specs.Queues.{Lawful, Puts, Takes, Exchanges, first-of, told};
-
 use crate::fault::QueueFault;
 use records::record::Record;
 

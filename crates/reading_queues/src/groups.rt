@@ -5,13 +5,11 @@ ghost use Prim.Native.Nat.{_*_};
 ghost use lib.ListN.{replicate};
 ghost use Rattle.records.specs.Readings.{stands, blank};
 ghost use Rattle.grouped.specs.Queues.{cells-of, Settled};
-
+pub use calls::ReadingGroupsQueue;
 use grouped::groups::Groups;
 use grouped::shape::GroupCells;
 use records::reading::Reading;
 use records::reading::ReadingRecord;
-
-pub use calls::ReadingGroupsQueue;
 
 // A grouped queue of readings. Its cells are settled: each group ascends, all of a group but its last
 // stand no later than the first of the next, and no blank stands before a record of a later group.

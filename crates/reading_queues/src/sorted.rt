@@ -6,13 +6,11 @@ ghost use Rattle.std.specs.Of.Vec.{vec-len};
 ghost use Rattle.records.specs.Readings.{stands, blank};
 ghost use Rattle.sorted.specs.Standing.{Ascends, Counted};
 ghost use Rattle.sorted.specs.Lines.{sorted-cells};
-
+pub use calls::ReadingSortedQueue;
 use records::reading::Reading;
 use records::reading::ReadingRecord;
 use sorted::cells::SortedCells;
 use sorted::queue::Sorted;
-
-pub use calls::ReadingSortedQueue;
 
 // A sorted queue of readings: its cells ascend, the free ones last.
 #[derive(Drop)]

@@ -57,4 +57,3 @@ by-key key apart l = record {
   trans = λ x y z. l .trans (key x) (key y) (key z);
   antisym = λ x y p q. apart x y (l .antisym (key x) (key y) p q);
 }
-

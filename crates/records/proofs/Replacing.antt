@@ -46,10 +46,10 @@ module _ {R : Type 0} (le : R → R → Bool) where
         let more = insert-between x ys b (s .1) (f .1) h in
         ⊎-elim
         (λ (t : le x y ≡ true).
-            let e : x ≡ y = l .antisym x y t (f .0) in
-            let first = insert-first le x (ys ++ b) (above le l x y (ys ++ b) t (s .0)) in
-            let now-first = cond-true (le x y) (x ∷ y ∷ (ys ++ b)) (y ∷ insert le x (ys ++ b)) t in
-            cc)
+        let e : x ≡ y = l .antisym x y t (f .0) in
+        let first = insert-first le x (ys ++ b) (above le l x y (ys ++ b) t (s .0)) in
+        let now-first = cond-true (le x y) (x ∷ y ∷ (ys ++ b)) (y ∷ insert le x (ys ++ b)) t in
+        cc)
         (λ (n : le x y ≡ false). insert-past le x y (ys ++ b) n ∙ ap (λ v. y ∷ v) more)
         (cases-bool (le x y))
 
@@ -119,10 +119,11 @@ down-turn E cells k y n pos h t d e =
     let q : k - 1 + 1 ≡ k = omega arith in
     let at : y ≡ getD (front E) (k - 1) y = e ∙ last-at E cells k y pos h t in
     let parts : drop (k - 1) (front E) ≡ y ∷ drop k (front E) = drop-more (front E) (k - 1) y inT ∙ ap (λ v. v ∷ drop (k - 1 + 1) (front E)) (sym at) ∙ ap (λ v. y ∷ drop v (front E)) q in
-    let inC : k < length cells = omega arith in
-    (take-set-le (k - 1) cells k y less ∙ sym (take-take (k - 1) k cells less) ∙ ap (take (k - 1)) t ∙ take-take (k - 1) k E less,
-    ap (λ v. drop v (set cells k y)) q ∙ drop-set cells k y inC ∙ ap (λ v. y ∷ v) d ∙ sym parts,
-    parts)
+    let inC : k < length cells = omega arith in (
+      take-set-le (k - 1) cells k y less ∙ sym (take-take (k - 1) k cells less) ∙ ap (take (k - 1)) t ∙ take-take (k - 1) k E less,
+      ap (λ v. drop v (set cells k y)) q ∙ drop-set cells k y inC ∙ ap (λ v. y ∷ v) d ∙ sym parts,
+      parts,
+    )
 
 pub down-end : {R : Type 0} (le : R → R → Bool) (l : Linear le) (E cells : List R) (k : ℕ) (x : R) → length cells ≡ length E → k < length E → Ascending le (front E) → take k cells ≡ take k E → drop (k + 1) cells ≡ drop k (front E) → All (λ y. le y x ≡ false) (drop k (front E)) → All (λ y. le y x ≡ true) (take k (front E)) → set cells k x ≡ insert le x (front E)
 down-end le l E cells k x n h a t d f s =

@@ -4,7 +4,6 @@ ghost use mathlib.Core.Path.{_≡_};
 ghost use Prim.Native.Nat.{_<_, _-_};
 ghost use lib.ListN.{length, getD, take, drop};
 ghost use Rattle.records.specs.Sorting.{insert, Ascending};
-
 use crate::record::Record;
 
 // Drops the last cell, sets x among the others by the order, and answers what was dropped. It goes

@@ -1,8 +1,7 @@
 mod numbers;
 
-use queues::fault::QueueFault;
-
 pub use numbers::ShowFaultFrom;
+use queues::fault::QueueFault;
 use queues::fault::QueueFaultDebug;
 use queues::fault::QueueFaultPartialEq;
 

@@ -6,13 +6,11 @@ ghost use Rattle.std.specs.Of.Vec.{vec-len};
 ghost use Rattle.records.specs.Telegrams.{stands, blank};
 ghost use Rattle.sorted.specs.Standing.{Ascends, Counted};
 ghost use Rattle.sorted.specs.Lines.{sorted-cells};
-
+pub use calls::TelegramSortedQueue;
 use records::telegram::Telegram;
 use records::telegram::TelegramRecord;
 use sorted::cells::SortedCells;
 use sorted::queue::Sorted;
-
-pub use calls::TelegramSortedQueue;
 
 // A sorted queue of telegrams: its cells ascend, the free ones last.
 #[derive(Drop)]

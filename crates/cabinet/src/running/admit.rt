@@ -4,10 +4,9 @@ ghost use Rattle.std.specs.Results.{isOk};
 ghost use Rattle.shows.specs.Calls.{Admits, put-of, counted};
 ghost use Rattle.shows.specs.Histories.{admit};
 ghost use Rattle.cabinet.specs.States.{state-of, limits-of, Extends};
-
+use super::RunningShow;
 use super::enter::stamp;
 use super::one_more;
-use super::RunningShow;
 use queues::queue::Put;
 use queues::queue::Queue;
 use records::telegram::Telegram;
@@ -39,7 +38,13 @@ impl<Q: Queue<Telegram>> RunningShow<Q> {
     // Takes a telegram of `length` bytes to a row in at a tick. Refuses a bad time (1), a row that is
     // not set (2), a bad length (3), the telegram past the last number (4), a row that would be busy
     // past the last tick (5), and a row too far ahead for the zone (6 yellow, 7 red).
-    pub fn admit(&mut self, at: u64, row: u8, length: u16, handle: u32) -> Result<Admission, ShowFault>
+    pub fn admit(
+        &mut self,
+        at: u64,
+        row: u8,
+        length: u16,
+        handle: u32,
+    ) -> Result<Admission, ShowFault>
         ensures step { λ r. ⌜ Admits (limits-of room slack (now (self .entry))) (state-of held (now (self .entry))) at row length handle r (state-of held (now (self .exit))) ⌝ }
         ensures stays { λ r. ⌜ (isOk r ≡ false → now (self .exit) ≡ now (self .entry)) ⌝ }
         ensures limits { λ r. ⌜ limits-of room slack (now (self .exit)) ≡ limits-of room slack (now (self .entry)) ⌝ }

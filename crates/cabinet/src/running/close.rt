@@ -3,7 +3,6 @@ ghost use mathlib.Core.Path.{_≡_};
 ghost use Rattle.shows.specs.Accounts.{Accounts, report-of};
 ghost use Rattle.shows.specs.Histories.{Setting, Entry, History};
 ghost use Rattle.cabinet.specs.States.{state-of, limits-of};
-
 use super::RunningShow;
 use queues::queue::Queue;
 use records::telegram::Telegram;

@@ -4,19 +4,18 @@ ghost use Rattle.records.specs.Telegrams.{key};
 ghost use Rattle.shows.specs.Calls.{zone-at};
 ghost use Rattle.cabinet.specs.Entering.{Finds, Judges, Passes};
 ghost use Rattle.cabinet.specs.States.{state-of, limits-of};
-
-use super::RunningShow;
 use super::COUNT_LIMIT;
+use super::RunningShow;
+use crate::slot::Slot;
 use crate::slot::bad_length;
 use crate::slot::burst_of;
 use crate::slot::slot_of;
-use crate::slot::Slot;
 use queues::queue::Queue;
 use records::telegram::Telegram;
 use shows::fault::ShowFault;
 use shows::row::Row;
-use shows::zone::zone_of;
 use shows::zone::Zone;
+use shows::zone::zone_of;
 
 // Whether a zone lets a row in that is ahead: yellow by no more than its burst (6), red not at all (7).
 fn judge(zone: Zone, row: &Row, at: u64) -> Result<(), ShowFault>

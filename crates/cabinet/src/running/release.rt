@@ -4,9 +4,8 @@ ghost use Rattle.std.specs.Results.{isOk};
 ghost use Rattle.shows.specs.Calls.{Releases};
 ghost use Rattle.shows.specs.Histories.{release};
 ghost use Rattle.cabinet.specs.States.{state-of, limits-of, Extends};
-
-use super::one_more;
 use super::RunningShow;
+use super::one_more;
 use queues::queue::Queue;
 use records::telegram::Telegram;
 use shows::fault::ShowFault;

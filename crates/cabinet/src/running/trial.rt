@@ -4,7 +4,6 @@ ghost use Prim.Native.Nat.{_≤_};
 ghost use denote.Ref.{name};
 ghost use lib.ListN.{length};
 ghost use Rattle.cabinet.specs.Telling.{Tells, Told};
-
 use crate::slot::bad_length;
 use crate::slot::slot_of;
 use shows::fault::ForecastFault;
@@ -51,7 +50,12 @@ impl Trial<'_> {
 }
 
 // Writes the releases that a row would give lengths one after another. The row stays.
-pub(super) fn tell(row: &mut Row, at: u64, lengths: &[u16], times: &mut [u64]) -> Result<usize, ForecastFault>
+pub(super) fn tell(
+    row: &mut Row,
+    at: u64,
+    lengths: &[u16],
+    times: &mut [u64],
+) -> Result<usize, ForecastFault>
     requires room { ⌜ length (now lengths) ≤ length (now times) ⌝ }
     ensures row { λ r. ⌜ now (row .exit) ≡ now (row .entry) ⌝ }
     ensures told { λ r. ⌜ Told (now (row .entry)) at (now (lengths .entry)) (now (times .entry)) r (now (times .exit)) ⌝ }

@@ -1,6 +1,5 @@
 ghost use mathlib.Core.Path.{_≡_};
 ghost use Rattle.queues.specs.Faults.{number as number-of};
-
 use super::QueueFault;
 
 impl QueueFault {

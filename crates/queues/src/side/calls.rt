@@ -1,13 +1,12 @@
 ghost use mathlib.Core.Path.{_≡_};
 ghost use Rattle.queues.specs.Queues.{Puts, Takes, Exchanges};
 ghost use Rattle.queues.specs.Sides.{side-held, side-room, side-slack, in-cell, cell-leads, Side-puts, Side-takes, Side-exchanges};
-
 use super::SideCell;
 use crate::fault::QueueFault;
 use crate::queue::Put;
 use crate::queue::Queue;
-use records::record::is_blank;
 use records::record::Record;
+use records::record::is_blank;
 
 impl<R: Record, Q: Queue<R>> SideCell<R, Q> {
     // A free cell beside a queue.

@@ -1,6 +1,5 @@
 ghost use mathlib.Core.Path.{_≡_};
 ghost use Rattle.records.specs.Readings.{distance, stands, blank};
-
 use super::Reading;
 use crate::record::Record;
 

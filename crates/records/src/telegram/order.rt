@@ -1,5 +1,4 @@
 ghost use Rattle.records.specs.Telegrams.{stands, blank};
-
 use super::Telegram;
 use crate::record::Record;
 

@@ -1,6 +1,5 @@
 ghost use mathlib.Core.Path.{_≡_};
 ghost use Rattle.shows.specs.Cards.{Makes};
-
 use super::RowCard;
 use crate::fault::ShowFault;
 

@@ -1,7 +1,6 @@
 ghost use mathlib.Core.Path.{_≡_};
 ghost use Rattle.shows.specs.Faults.{number as number-of, layer as layer-of};
 ghost use Rattle.shows.specs.declared.fault.ShowFault.the-variants.{Queue};
-
 use super::ShowFault;
 use queues::fault::QueueFault;
 

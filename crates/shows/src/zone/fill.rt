@@ -1,6 +1,5 @@
 ghost use mathlib.Core.Path.{_≡_};
 ghost use Rattle.shows.specs.Zones.{zone};
-
 use super::Zone;
 
 // The zone of a queue that holds so many of so many: green below a third, red from two thirds on.

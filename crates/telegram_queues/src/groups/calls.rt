@@ -6,7 +6,6 @@ ghost use Rattle.queues.specs.Cells.{put-answer, take-answer, exchange-answer};
 ghost use Rattle.queues.specs.Queues.{Puts, Takes, Exchanges};
 ghost use Rattle.grouped.specs.Queues.{cells-of, first-cell, last-cell, after-put, after-take, after-exchange};
 ghost use Rattle.telegram_queues.specs.Groups.{held-by, room-by, slack-by};
-
 use super::TelegramGroups;
 use queues::fault::QueueFault;
 use queues::queue::Put;

@@ -7,7 +7,6 @@ ghost use Rattle.queues.specs.Queues.{Puts, Takes, Exchanges};
 ghost use Rattle.sorted.specs.Standing.{put-cells, take-cells, exchange-cells};
 ghost use Rattle.sorted.specs.Lines.{sorted-cells, first-cell, last-cell};
 ghost use Rattle.telegram_queues.specs.Lines.{held-by, room-by, slack-by};
-
 use super::TelegramSorted;
 use queues::fault::QueueFault;
 use queues::queue::Put;

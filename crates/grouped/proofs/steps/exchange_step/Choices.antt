@@ -9,5 +9,5 @@ use Rattle.grouped.proofs.steps.exchange_step.Given as given
 abbrev pub Inv-loop-i : given.InvT-loop-i
 Inv-loop-i g l =
     (take (l .i * l .size) (l .cells) ++ flat (exchange-groups (g .R·Record .order) (g .R·Record .last) (l .size) (l .a) (rows (l .groups) (l .size) (l .i) (l .entry .cells)))
-      ≡ exchange-cells (g .R·Record .order) (g .R·Record .last) (l .groups) (l .size) (l .entry .a) (l .entry .cells))
+    ≡ exchange-cells (g .R·Record .order) (g .R·Record .last) (l .groups) (l .size) (l .entry .a) (l .entry .cells))
     × (drop (l .i * l .size) (l .cells) ≡ drop (l .i * l .size) (l .entry .cells))

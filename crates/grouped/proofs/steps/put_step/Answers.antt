@@ -39,5 +39,5 @@ returns g c =
     let some : 1 ≤ c .loop-i .i = omega arith in
     record {
       cells = turns-end (c .args .groups) (c .args .size) (c .loop-i .i) (c .loop-i .cells) _ (c .args .cells .now) (λ v. flat (put-groups le d (c .args .size) (c .loop-i .z) v)) refl (c .loop-i .kept .cells ∙ c .pre .fits .whole) e (c .loop-i .inv .0);
-      out = c .loop-i .inv .2 some ∙ ap (λ v. getD (c .args .cells .now) (v * c .args .size - 1) d) e
+      out = c .loop-i .inv .2 some ∙ ap (λ v. getD (c .args .cells .now) (v * c .args .size - 1) d) e;
     }

@@ -42,5 +42,5 @@ returns g c =
     let l : 0 < length (c .args .cells .now) = omega arith in
     record {
       cells = turns-end (c .args .groups) (c .args .size) (c .loop-i .i) (c .loop-i .cells) _ (c .args .cells .now) (λ v. flat (take-groups le d (c .args .size) v)) refl (c .loop-i .kept .cells ∙ c .pre .fits .whole) e (c .loop-i .inv .0);
-      out = getD-read (c .args .cells .now) 0 (c .index-cells-0 .result) l (c .index-cells-0 .is) d
+      out = getD-read (c .args .cells .now) 0 (c .index-cells-0 .result) l (c .index-cells-0 .is) d;
     }

@@ -9,5 +9,5 @@ use Rattle.grouped.proofs.steps.take_step.Given as given
 abbrev pub Inv-loop-i : given.InvT-loop-i
 Inv-loop-i g l =
     (take (l .i * l .size) (l .cells) ++ flat (take-groups (g .R·Record .order) (g .R·Record .last) (l .size) (rows (l .groups) (l .size) (l .i) (l .entry .cells)))
-      ≡ take-cells (g .R·Record .order) (g .R·Record .last) (l .groups) (l .size) (l .entry .cells))
+    ≡ take-cells (g .R·Record .order) (g .R·Record .last) (l .groups) (l .size) (l .entry .cells))
     × (drop (l .i * l .size) (l .cells) ≡ drop (l .i * l .size) (l .entry .cells))

@@ -41,13 +41,14 @@ returns g c =
     let n : length (c .loop-k .cells) ≡ length E = omega arith in
     let lT : length (front E) ≡ length E - 1 = length-take-le (length E - 1) E (omega arith) in
     let before : All (λ y. le y x ≡ true) (take k (front E)) =
-        elim (c .loop-k-test .came) [
-          then-loop-k-test·else-not-no-later w ↦
-            let y = w .index-cells-k .result in
-            let q : k - 1 + 1 ≡ k = omega arith in
-            subst (λ v. All (λ y. le y x ≡ true) (take v (front E))) q
-            (up-to le l (front E) (k - 1) x y (c .pre .ascending) (omega arith) (w .index-cells-k .is ∙ last-at E (c .loop-k .cells) k y (w .loop-k-test .taken) (inv .0) (inv .1)) (sym (w .if-not-no-later .ensures tt ∙ ap (λ v. le v x) (sym (w .index-cells-k .is)))))
-          | else-loop-k-test w ↦ let z : 0 ≡ k = omega arith in subst (λ v. All (λ y. le y x ≡ true) (take v (front E))) z tt ] in
+    elim (c .loop-k-test .came) [
+      | then-loop-k-test·else-not-no-later w ↦
+          let y = w .index-cells-k .result in
+          let q : k - 1 + 1 ≡ k = omega arith in
+          subst (λ v. All (λ y. le y x ≡ true) (take v (front E))) q
+          (up-to le l (front E) (k - 1) x y (c .pre .ascending) (omega arith) (w .index-cells-k .is ∙ last-at E (c .loop-k .cells) k y (w .loop-k-test .taken) (inv .0) (inv .1)) (sym (w .if-not-no-later .ensures tt ∙ ap (λ v. le v x) (sym (w .index-cells-k .is)))))
+      | else-loop-k-test w ↦ let z : 0 ≡ k = omega arith in subst (λ v. All (λ y. le y x ≡ true) (take v (front E))) z tt
+    ] in
     record {
       cells = down-end le l E (c .loop-k .cells) k x n (inv .0) (c .pre .ascending) (inv .1) (inv .2) (inv .3) before;
       out = λ d. getD-read E (length E - 1) (c .index-cells-n .result) (omega arith) (c .index-cells-n .is) d;

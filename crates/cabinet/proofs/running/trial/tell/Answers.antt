@@ -20,12 +20,13 @@ loop-i-again c =
     let within : l .i < length ns = omega arith in
     let room : l .i < length (l .times) = omega arith in
     let tells = c .in-Continue-times .ensures tt .tells in
-    let kept = c .step .ensures .was in
-    (c .step .ensures .lender ∙ l .inv .0,
+    let kept = c .step .ensures .was in (
+      c .step .ensures .lender ∙ l .inv .0,
       kept ∙ l .inv .1,
       refusal-again row row′ (c .args .at) (l .i) (c .in-Continue-times .field-0) ns (l .times) within tells ∙ l .inv .2 ∙ ap (λ w. forecast-refusal w (c .args .at) ns) (sym kept),
       times-again row row′ (c .args .at) (l .i) (c .in-Continue-times .field-0) ns (l .times) within tells room ∙ l .inv .3 ∙ ap (λ w. forecast-times w (c .args .at) ns) (sym kept),
-      rest-again (l .i) (c .in-Continue-times .field-0) (l .times) (c .args .times .now) (l .inv .4))
+      rest-again (l .i) (c .in-Continue-times .field-0) (l .times) (c .args .times .now) (l .inv .4),
+    )
 
 pub returns-in-Break-times : need.returns-in-Break-times
 returns-in-Break-times c =

@@ -1,12 +1,9 @@
-use mathlib.Core.Path.{_≡_, sym, ap, _∙_}
+use mathlib.Core.Path.{sym, ap, _∙_}
 use native.Mathlib.Omega.{arith}
 use Prim.Native.Nat.{_<_}
-use mathlib.Core.Bool.{true, false}
-use lib.ListN.{getD}
 use Rattle.std.specs.Of.Vec.{vec-len}
 use Rattle.std.specs.declared.option.Option.the-variants.{Some}
 use Rattle.queues.specs.Queues.{first-of}
-use Rattle.grouped.specs.Queues.{cells-of}
 use Rattle.grouped.proofs.Calls.{some, read, held-none, held-some}
 use Rattle.grouped.proofs.groups.Groups.first.Needs as need
 

@@ -1,6 +1,6 @@
-use mathlib.Core.Path.{_≡_, refl, sym, ap, _∙_}
+use mathlib.Core.Path.{_≡_, refl, ap, _∙_}
 use Prim.Native.Nat.{_*_}
-use lib.ListN.{length, replicate}
+use lib.ListN.{replicate}
 use Rattle.std.proofs.shelf.Lists.{refilled-is}
 use Rattle.std.specs.Changed.{refilled}
 use Rattle.grouped.proofs.Calls.{blank-settles}

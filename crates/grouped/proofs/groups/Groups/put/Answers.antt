@@ -1,10 +1,9 @@
 use borrow.Author.Needs.{needs}
 use mathlib.Core.Path.{_≡_, refl, sym, ap, _∙_}
-use mathlib.Core.Bool.{true, false}
+use mathlib.Core.Bool.{true}
 use Prim.Native.Nat.{_-_, _≤_}
 use native.Mathlib.Omega.{arith}
 use lib.ListN.{getD}
-use Rattle.std.specs.Changed.{refilled}
 use Rattle.records.specs.Sorting.{Filled}
 use Rattle.queues.proofs.Cells.{is-blank}
 use Rattle.grouped.specs.Steps.{put-cells}
