@@ -1,11 +1,11 @@
 // Drives the queues and shows through worked sequences and prints what happened after every call.
-mod evening;
+mod nights;
 
-use evening::admit_said;
-use evening::evening;
-use evening::evening_said;
-use evening::last_ticks;
 use grouped::shape::GroupCells;
+use nights::admit_said;
+use nights::evening_said;
+use nights::last_ticks;
+use nights::play;
 use queues::fault::QueueFault;
 use queues::queue::Put;
 use queues::queue::Queue;
@@ -138,26 +138,29 @@ fn sorted_cells(heap: Global) -> Result<TelegramSorted, AnyError> {
 // One evening over each queue, and the last ticks of a row.
 fn evenings(rt: &LibcRuntime) -> Result<(), AnyError> {
     let heap = rt.alloc();
-    let (Ok(slow), Ok(quick)) = (RowCard::new(20, 3000), RowCard::new(1, 0)) else {
-        return Err("the cards are within their bounds".into());
+    let Ok(slow) = RowCard::new(20, 3000) else {
+        return Err("a pace of 20 and a burst of 3,000 are within bounds".into());
+    };
+    let Ok(quick) = RowCard::new(1, 0) else {
+        return Err("a pace of 1 and no burst are within bounds".into());
     };
     println!(rt, "an evening over a grouped queue")?;
     print!(
         rt,
         "{}",
-        evening_said(heap, &evening(slow, nine_cells(heap)?))?
+        evening_said(heap, &play(slow, nine_cells(heap)?))?
     )?;
     println!(rt, "an evening over a sorted queue")?;
     print!(
         rt,
         "{}",
-        evening_said(heap, &evening(slow, sorted_cells(heap)?))?
+        evening_said(heap, &play(slow, sorted_cells(heap)?))?
     )?;
     println!(rt, "an evening over a side cell beside a grouped queue")?;
     print!(
         rt,
         "{}",
-        evening_said(heap, &evening(slow, SideCell::new(nine_cells(heap)?)))?
+        evening_said(heap, &play(slow, SideCell::new(nine_cells(heap)?)))?
     )?;
     println!(
         rt,

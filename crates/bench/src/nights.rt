@@ -19,7 +19,7 @@ pub struct Evening {
 }
 
 // Row 5 at pace 20 and burst 3,000: two telegrams, and three releases of which one comes early.
-pub fn evening<Q: Queue<Telegram> + Drop>(card: RowCard, queue: Q) -> Evening {
+pub fn play<Q: Queue<Telegram> + Drop>(card: RowCard, queue: Q) -> Evening {
     let mut rigged = RiggedShow::new(queue);
     let _ = rigged.set(5, card);
     let mut show = rigged.start();
