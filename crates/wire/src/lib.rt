@@ -15,4 +15,5 @@ pub use faults::WireFault;
 pub use lines::Layer;
 pub use lines::Line;
 pub use lines::line_laws;
+pub use lines::list_text;
 pub use lines::write_line;

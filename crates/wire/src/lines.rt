@@ -3,9 +3,11 @@ ghost use mathlib.Core.Path.{_≡_};
 ghost use Rattle.wire.specs.Lines.{letter-of};
 
 mod laws;
+mod list;
 mod writer;
 
 pub use laws::line_laws;
+pub use list::list_text;
 pub use writer::write_line;
 
 // The layer that refused a call.
