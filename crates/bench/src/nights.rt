@@ -12,14 +12,14 @@ use std::alloc::Global;
 // What the calls of an evening answered. A show cannot be let go, so it is closed before anything is
 // printed.
 #[derive(Drop)]
-pub struct Evening {
+pub(crate) struct Evening {
     admits: [Result<Admission, ShowFault>; 2],
     releases: [Result<Telegram, ShowFault>; 3],
     report: Report,
 }
 
 // Row 5 at pace 20 and burst 3,000: two telegrams, and three releases of which one comes early.
-pub fn play<Q: Queue<Telegram> + Drop>(card: RowCard, queue: Q) -> Evening {
+pub(crate) fn play<Q: Queue<Telegram> + Drop>(card: RowCard, queue: Q) -> Evening {
     let mut rigged = RiggedShow::new(queue);
     let _ = rigged.set(5, card);
     let mut show = rigged.start();
@@ -35,7 +35,7 @@ pub fn play<Q: Queue<Telegram> + Drop>(card: RowCard, queue: Q) -> Evening {
 }
 
 // A row at pace 1: 64 bytes that are over with the last tick, and 64 bytes that would be over past it.
-pub fn last_ticks<Q: Queue<Telegram> + Drop>(
+pub(crate) fn last_ticks<Q: Queue<Telegram> + Drop>(
     card: RowCard,
     queue: Q,
 ) -> [Result<Admission, ShowFault>; 2] {
@@ -51,7 +51,7 @@ pub fn last_ticks<Q: Queue<Telegram> + Drop>(
 }
 
 // What an admit answered, in words.
-pub fn admit_said(
+pub(crate) fn admit_said(
     heap: Global,
     answer: &Result<Admission, ShowFault>,
 ) -> Result<String, AllocError> {
@@ -83,7 +83,7 @@ fn release_said(heap: Global, answer: &Result<Telegram, ShowFault>) -> Result<St
 }
 
 // The answers of an evening, one to a line.
-pub fn evening_said(heap: Global, evening: &Evening) -> Result<String, AllocError> {
+pub(crate) fn evening_said(heap: Global, evening: &Evening) -> Result<String, AllocError> {
     let mut text = String::new(heap);
     for admit in evening.admits.iter() {
         text.push_str(admit_said(heap, admit)?.as_str())?;

@@ -9,7 +9,7 @@ use records::cells::replace_last;
 use records::record::Record;
 
 // Drops the last cell, sets x among the others, and answers what was dropped.
-pub fn set_for_last<R: Record>(cells: &mut [R], held: usize, x: R) -> R
+pub(crate) fn set_for_last<R: Record>(cells: &mut [R], held: usize, x: R) -> R
     requires some { ⌜ 0 < length (now cells) ⌝ }
     requires ascending { ⌜ Ascends order last (now cells) ⌝ }
     requires counted { ⌜ Counted order last (now cells) held ⌝ }
@@ -22,7 +22,7 @@ pub fn set_for_last<R: Record>(cells: &mut [R], held: usize, x: R) -> R
 }
 
 // Drops the first record, sets x among the others, and answers what was dropped.
-pub fn set_for_first<R: Record>(cells: &mut [R], held: usize, x: R) -> R
+pub(crate) fn set_for_first<R: Record>(cells: &mut [R], held: usize, x: R) -> R
     requires some { ⌜ 0 < held ⌝ }
     requires ascending { ⌜ Ascends order last (now cells) ⌝ }
     requires counted { ⌜ Counted order last (now cells) held ⌝ }
@@ -33,7 +33,7 @@ pub fn set_for_first<R: Record>(cells: &mut [R], held: usize, x: R) -> R
 }
 
 // Sets every cell blank.
-pub fn wipe<R: Record>(cells: &mut [R])
+pub(crate) fn wipe<R: Record>(cells: &mut [R])
     ensures { λ _. ⌜ now (cells .exit) ≡ replicate (length (now (cells .entry))) last ⌝ }
 {
     for cell in cells.iter_mut() {

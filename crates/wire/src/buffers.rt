@@ -6,7 +6,7 @@ ghost use lib.ListN.{length};
 ghost use Rattle.wire.specs.Buffers.{put-over, put-at};
 
 // Puts bytes at the front, leaves what is past them, and answers how many they are.
-pub fn put(out: &mut [u8], bytes: &[u8]) -> usize
+pub(crate) fn put(out: &mut [u8], bytes: &[u8]) -> usize
     requires { ⌜ length (now bytes) ≤ length (now out) ⌝ }
     ensures count { λ r. ⌜ r ≡ length (now (bytes .entry)) ⌝ }
     ensures buffer { λ _. ⌜ now (out .exit) ≡ put-over (now (out .entry)) (now (bytes .entry)) ⌝ }
@@ -17,7 +17,7 @@ pub fn put(out: &mut [u8], bytes: &[u8]) -> usize
 }
 
 // Puts a byte at a place, leaves the others, and answers the place after it.
-pub fn put_byte(out: &mut [u8], at: usize, byte: u8) -> usize
+pub(crate) fn put_byte(out: &mut [u8], at: usize, byte: u8) -> usize
     requires { ⌜ at + 1 ≤ length (now out) ⌝ }
     ensures place { λ r. ⌜ r ≡ at + 1 ⌝ }
     ensures buffer { λ _. ⌜ now (out .exit) ≡ put-at at (now (out .entry)) (byte ∷ []) ⌝ }

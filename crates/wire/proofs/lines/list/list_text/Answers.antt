@@ -41,13 +41,15 @@ pub loop-line-again : need.loop-line-again
 loop-line-again c =
     let lines = c .args .lines .now in
     let i = c .loop-line .line-index in
-    let text = text-of (getD lines i Heading) in
-    (elim (c .match-write-line .came) [
-      in-Ok·in-Continue-extend-from-slice w ↦
-        more lines i Heading (vec-items (c .loop-line .text)) (vec-items (c .match-write-line .text)) (c .loop-line-test .taken) (c .loop-line .inv .0)
-        (ap vec-items (w .text-is) ∙ w .in-Continue-extend-from-slice .ensures tt .items ∙ ap (λ v. vec-items (c .loop-line .text) ++ v) (written (c .loop-line .buffer) text (c .write-line .last .out) (w .in-Ok .count) (c .loop-line .inv .1) (w .in-Ok .ensures tt .count) (c .write-line .ensures .buffer)))
-      | in-rest w ↦ let e : Err (w .in-rest .field-0) ≡ Ok (length text) = w .in-rest .ensures tt .count ∙ fits (c .loop-line .buffer) text (c .loop-line .inv .1) .0 in let z : _≡_ {A = ℕ} 0 1 = cc in absurd (omega arith) ],
-    c .write-line .kept .out ∙ c .loop-line .inv .1)
+    let text = text-of (getD lines i Heading) in (
+      elim (c .match-write-line .came) [
+        | in-Ok·in-Continue-extend-from-slice w ↦
+            more lines i Heading (vec-items (c .loop-line .text)) (vec-items (c .match-write-line .text)) (c .loop-line-test .taken) (c .loop-line .inv .0)
+            (ap vec-items (w .text-is) ∙ w .in-Continue-extend-from-slice .ensures tt .items ∙ ap (λ v. vec-items (c .loop-line .text) ++ v) (written (c .loop-line .buffer) text (c .write-line .last .out) (w .in-Ok .count) (c .loop-line .inv .1) (w .in-Ok .ensures tt .count) (c .write-line .ensures .buffer)))
+        | in-rest w ↦ let e : Err (w .in-rest .field-0) ≡ Ok (length text) = w .in-rest .ensures tt .count ∙ fits (c .loop-line .buffer) text (c .loop-line .inv .1) .0 in let z : _≡_ {A = ℕ} 0 1 = cc in absurd (omega arith)
+      ],
+      c .write-line .kept .out ∙ c .loop-line .inv .1,
+    )
 
 pub returns : need.returns
 returns c = let e : take (c .loop-line .line-index) (c .args .lines .now) ≡ c .args .lines .now = take-all (c .loop-line .line-index) (c .args .lines .now) (c .loop-line-test .left) in c .loop-line .inv .0 ∙ ap (joined text-of) e
