@@ -3,8 +3,6 @@ mod buffers;
 pub mod commands;
 pub mod faults;
 pub mod lines;
-#[cfg(test)]
-mod tests;
 
 pub use commands::Command;
 pub use commands::Found;

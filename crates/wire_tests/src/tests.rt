@@ -1,16 +1,16 @@
 // Each command and each line once, and each refusal.
-use crate::Command;
-use crate::Found;
-use crate::Layer;
-use crate::Line;
-use crate::WireFault;
-use crate::commands::FoundDebug;
-use crate::commands::FoundPartialEq;
-use crate::faults::WireFaultDebug;
-use crate::faults::WireFaultPartialEq;
-use crate::read;
-use crate::write;
-use crate::write_line;
+use wire::Command;
+use wire::Found;
+use wire::Layer;
+use wire::Line;
+use wire::WireFault;
+use wire::commands::FoundDebug;
+use wire::commands::FoundPartialEq;
+use wire::faults::WireFaultDebug;
+use wire::faults::WireFaultPartialEq;
+use wire::read;
+use wire::write;
+use wire::write_line;
 use std::test::*;
 
 // The command is written as these bytes, and read from them again.

@@ -1,0 +1,3 @@
+// Commands and lines as their users write and read them.
+#[cfg(test)]
+mod tests;
