@@ -40,7 +40,7 @@ impl PanelFault {
 pub impl From<QueueFault> for PanelFault as PanelFaultFrom {
     ghost converts = { λ e r. r ≡ Queue e };
 
-    fn from(fault: QueueFault) -> PanelFault {
-        PanelFault::Queue(fault)
+    fn from(refusal: QueueFault) -> PanelFault {
+        PanelFault::Queue(refusal)
     }
 }

@@ -39,7 +39,7 @@ impl ShowFault {
 pub impl From<QueueFault> for ShowFault as ShowFaultFrom {
     ghost converts = { λ e r. r ≡ Queue e };
 
-    fn from(fault: QueueFault) -> ShowFault {
-        ShowFault::Queue(fault)
+    fn from(refusal: QueueFault) -> ShowFault {
+        ShowFault::Queue(refusal)
     }
 }

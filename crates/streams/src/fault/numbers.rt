@@ -58,23 +58,23 @@ impl Placed {
 pub impl From<WireFault> for StreamFault as StreamFaultFromWire {
     ghost converts = { λ e r. r ≡ OfWire e };
 
-    fn from(fault: WireFault) -> StreamFault {
-        StreamFault::Wire(fault)
+    fn from(refusal: WireFault) -> StreamFault {
+        StreamFault::Wire(refusal)
     }
 }
 
 pub impl From<ShowFault> for StreamFault as StreamFaultFromShow {
     ghost converts = { λ e r. r ≡ OfShow e };
 
-    fn from(fault: ShowFault) -> StreamFault {
-        StreamFault::Show(fault)
+    fn from(refusal: ShowFault) -> StreamFault {
+        StreamFault::Show(refusal)
     }
 }
 
 pub impl From<PanelFault> for StreamFault as StreamFaultFromPanel {
     ghost converts = { λ e r. r ≡ OfPanel e };
 
-    fn from(fault: PanelFault) -> StreamFault {
-        StreamFault::Panel(fault)
+    fn from(refusal: PanelFault) -> StreamFault {
+        StreamFault::Panel(refusal)
     }
 }
