@@ -1,4 +1,5 @@
 // Each command and each line once, and each refusal.
+use std::test::*;
 use wire::Command;
 use wire::Found;
 use wire::Layer;
@@ -11,7 +12,6 @@ use wire::faults::WireFaultPartialEq;
 use wire::read;
 use wire::write;
 use wire::write_line;
-use std::test::*;
 
 // The command is written as these bytes, and read from them again.
 fn both_ways(command: Command, bytes: &[u8]) -> Result<(), Fail> {
