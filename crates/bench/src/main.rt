@@ -1,4 +1,6 @@
 // Drives the queues and shows through worked sequences and prints what happened after every call.
+#![tactic(auto)]
+
 mod nights;
 
 use anyhow::anyhow;

@@ -1,4 +1,6 @@
 // The worked cases of the documents, proved over the definitions that the contracts cite.
+#![tactic(auto)]
+
 mod queues_cases;
 mod shows_cases;
 

@@ -1,5 +1,7 @@
 // Cells of records: how one of ascending cells makes way for a newcomer, and how all are blanked. What
 // these functions ask of their cells the queues above them keep; no other crate calls them.
+#![tactic(auto)]
+
 ghost use Rattle.std.specs.Prelude.{◌≡◌, ◌-◌, ◌<◌, length, take, drop, replicate, slice_index_or};
 ghost use Rattle.records.specs.Sorting.{insert, Ascending};
 

@@ -1,4 +1,6 @@
 // Commands read from bytes, and written as bytes.
+#![tactic(auto)]
+
 mod reader;
 mod writer;
 

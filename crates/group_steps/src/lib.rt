@@ -1,5 +1,7 @@
 // The steps of a grouped queue over lent cells of any record kind: so many groups of so many cells,
 // the first group's first (docs/QUEUES.md). What they ask of the cells the queue types above keep.
+#![tactic(auto)]
+
 ghost use Rattle.std.specs.Prelude.{◌≡◌, ◌+◌, ◌-◌, ◌*◌, ◌<◌, ◌≤◌, length, drop, slice_index_or};
 ghost use Rattle.records.specs.Sorting.{insert, Ascending, earlier, later};
 ghost use Rattle.standing.specs.Facts.{Ascends};

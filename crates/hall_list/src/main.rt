@@ -1,4 +1,6 @@
 // The list program: a command stream on standard input, its release list on standard output.
+#![tactic(auto)]
+
 use listing::list_from;
 use std::io::Write;
 

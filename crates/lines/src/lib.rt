@@ -1,4 +1,6 @@
 // Lines written as text, and a whole list as text.
+#![tactic(auto)]
+
 mod list;
 mod writer;
 

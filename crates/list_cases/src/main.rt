@@ -1,5 +1,7 @@
 // Runs the streams of data/ as the list program does, and holds each list to the one that was worked out
 // for it.
+#![tactic(auto)]
+
 use listing::list_from;
 use std::fs;
 

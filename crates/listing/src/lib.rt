@@ -1,4 +1,6 @@
 // The release list of a hall cabinet: its queues, the run of a stream over them, and the text (docs/LIST.md).
+#![tactic(auto)]
+
 mod cells;
 mod source;
 mod text;

@@ -1,4 +1,6 @@
 // The queues as their users call them: stacked side cells, full queues, refusals.
+#![tactic(auto)]
+
 #[cfg(test)]
 mod tests {
     use queues::fault::QueueFault;

@@ -1,3 +1,5 @@
 // What a queue means (docs/QUEUES.md).
+#![tactic(auto)]
+
 pub mod fault;
 pub mod queue;

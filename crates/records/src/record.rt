@@ -25,7 +25,7 @@ pub trait Record: Copy {
 
 // Whether a value is its kind's blank: only the blank stands no earlier than the blank.
 pub fn is_blank<R: Record>(x: &R) -> bool
-    ensures { result ≡ order last x.now }
+    ensures { result ≡ R.Record.order R.Record.last x.now }
 {
     R::blank().no_later(x)
 }
@@ -33,8 +33,8 @@ pub fn is_blank<R: Record>(x: &R) -> bool
 // The order of any kind decides how records stand in line: whatever the sequence in which they came,
 // they sort to one ascending list.
 pub fn sorts_alike<R: Record>() -> bool
-    ensures alike { (xs ys : List R) → Perm xs ys → sort order xs ≡ sort order ys }
-    ensures ascends { (xs : List R) → Ascending order (sort order xs) }
+    ensures alike { (xs ys : List R) → Perm xs ys → sort R.Record.order xs ≡ sort R.Record.order ys }
+    ensures ascends { (xs : List R) → Ascending R.Record.order (sort R.Record.order xs) }
     ensures answer { result ≡ true }
 {
     true

@@ -1,5 +1,7 @@
 // How a newcomer comes in among cells of which the first `held` hold a record. Of the free cells only
 // the first is looked at, and only by a put, which fills it.
+#![tactic(auto)]
+
 ghost use Rattle.std.specs.Prelude.{◌≡◌, ◌-◌, ◌<◌, length, slice_index_or};
 ghost use Rattle.queues.specs.Cells.{Counted};
 ghost use Rattle.standing.specs.Lines.{Ascends, put_cells, exchange_cells};

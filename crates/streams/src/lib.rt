@@ -1,4 +1,6 @@
 // The run of a command stream over a show and a panel, and the lines of its release list.
+#![tactic(auto)]
+
 mod calls;
 mod closed;
 mod ended;

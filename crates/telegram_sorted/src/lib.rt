@@ -1,4 +1,6 @@
 // The sorted queue of telegrams: a type that carries how its cells stand (docs/QUEUES.md).
+#![tactic(auto)]
+
 mod calls;
 
 ghost use Rattle.std.specs.Prelude.{◌≡◌, replicate, vec_len};

@@ -1,3 +1,5 @@
 // Commands and lines as their users write and read them.
+#![tactic(auto)]
+
 #[cfg(test)]
 mod tests;
