@@ -69,9 +69,9 @@ fn admit<Q: Queue<Telegram>>(
     place: u32,
 )
     requires room { vec_len lines.old + 2 ≤ vec_capacity lines.old }
-    ensures did { (pl : Limits) (readings : List AReading) → Did (limits_of room slack show.old) pl (running (state_of held show.old)) readings (commands.Admit at row length handle) place lines.old.items (running (state_of held show.new)) readings lines.new.items }
+    ensures did { (pl : Limits) (readings : List AReading) → Did (limits_of Q.Queue.room Q.Queue.slack show.old) pl (running (state_of Q.Queue.held show.old)) readings (commands.Admit at row length handle) place lines.old.items (running (state_of Q.Queue.held show.new)) readings lines.new.items }
     ensures capacity { vec_capacity lines.new ≡ vec_capacity lines.old }
-    ensures limits { limits_of room slack show.new ≡ limits_of room slack show.old }
+    ensures limits { limits_of Q.Queue.room Q.Queue.slack show.new ≡ limits_of Q.Queue.room Q.Queue.slack show.old }
 {
     match show.admit(at, row, length, handle) {
         Ok(admission) => list_admission(lines, admission),
@@ -86,9 +86,9 @@ fn release<Q: Queue<Telegram>>(
     place: u32,
 )
     requires room { vec_len lines.old < vec_capacity lines.old }
-    ensures did { (pl : Limits) (readings : List AReading) → Did (limits_of room slack show.old) pl (running (state_of held show.old)) readings (commands.Release at) place lines.old.items (running (state_of held show.new)) readings lines.new.items }
+    ensures did { (pl : Limits) (readings : List AReading) → Did (limits_of Q.Queue.room Q.Queue.slack show.old) pl (running (state_of Q.Queue.held show.old)) readings (commands.Release at) place lines.old.items (running (state_of Q.Queue.held show.new)) readings lines.new.items }
     ensures capacity { vec_capacity lines.new ≡ vec_capacity lines.old }
-    ensures limits { limits_of room slack show.new ≡ limits_of room slack show.old }
+    ensures limits { limits_of Q.Queue.room Q.Queue.slack show.new ≡ limits_of Q.Queue.room Q.Queue.slack show.old }
 {
     match show.release(at) {
         Ok(telegram) => lines.push_reserved(departed(telegram, at)),
@@ -106,9 +106,9 @@ fn exchange<Q: Queue<Telegram>>(
     place: u32,
 )
     requires room { vec_len lines.old + 2 ≤ vec_capacity lines.old }
-    ensures did { (pl : Limits) (readings : List AReading) → Did (limits_of room slack show.old) pl (running (state_of held show.old)) readings (commands.Exchange at row length handle) place lines.old.items (running (state_of held show.new)) readings lines.new.items }
+    ensures did { (pl : Limits) (readings : List AReading) → Did (limits_of Q.Queue.room Q.Queue.slack show.old) pl (running (state_of Q.Queue.held show.old)) readings (commands.Exchange at row length handle) place lines.old.items (running (state_of Q.Queue.held show.new)) readings lines.new.items }
     ensures capacity { vec_capacity lines.new ≡ vec_capacity lines.old }
-    ensures limits { limits_of room slack show.new ≡ limits_of room slack show.old }
+    ensures limits { limits_of Q.Queue.room Q.Queue.slack show.new ≡ limits_of Q.Queue.room Q.Queue.slack show.old }
 {
     match show.exchange(at, row, length, handle) {
         Ok(exchange) => {

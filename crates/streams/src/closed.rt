@@ -24,9 +24,9 @@ pub(crate) fn closed<P: Queue<Reading>>(
 ) -> Ended
     requires short { length bytes.now ≤ 65536 }
     requires room { Roomy (vec_len lines.old) (vec_capacity lines.old) (length bytes.now) start }
-    ensures halted { (l : Limits) (s : State) (h : List ATelegram) (rs : List AReading) → Reached l (limits_at room slack panel.old.queue) bytes.now h rs start (is_closed s) (held panel.old.queue) lines.old.items → Halted (λ c. ⊥) l (limits_at room slack panel.old.queue) bytes.now h rs result (is_closed s) (held panel.new.queue) lines.new.items }
+    ensures halted { (l : Limits) (s : State) (h : List ATelegram) (rs : List AReading) → Reached l (limits_at P.Queue.room P.Queue.slack panel.old.queue) bytes.now h rs start (is_closed s) (P.Queue.held panel.old.queue) lines.old.items → Halted (λ c. ⊥) l (limits_at P.Queue.room P.Queue.slack panel.old.queue) bytes.now h rs result (is_closed s) (P.Queue.held panel.new.queue) lines.new.items }
     ensures room { RoomToReport (vec_len lines.new) (vec_capacity lines.new) result }
-    ensures limits { limits_at room slack panel.new.queue ≡ limits_at room slack panel.old.queue }
+    ensures limits { limits_at P.Queue.room P.Queue.slack panel.new.queue ≡ limits_at P.Queue.room P.Queue.slack panel.old.queue }
 {
     let mut place = start;
     let ended = 'closed: loop {

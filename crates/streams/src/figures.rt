@@ -21,9 +21,9 @@ pub(crate) fn offer<P: Queue<Reading>>(
     place: u32,
 )
     requires room { vec_len lines.old < vec_capacity lines.old }
-    ensures did { (l : Limits) (phase : Phase) → Did l (limits_at room slack panel.old.queue) phase (held panel.old.queue) (commands.Reading reading.row reading.position reading.target) place lines.old.items phase (held panel.new.queue) lines.new.items }
+    ensures did { (l : Limits) (phase : Phase) → Did l (limits_at P.Queue.room P.Queue.slack panel.old.queue) phase (P.Queue.held panel.old.queue) (commands.Reading reading.row reading.position reading.target) place lines.old.items phase (P.Queue.held panel.new.queue) lines.new.items }
     ensures capacity { vec_capacity lines.new ≡ vec_capacity lines.old }
-    ensures limits { limits_at room slack panel.new.queue ≡ limits_at room slack panel.old.queue }
+    ensures limits { limits_at P.Queue.room P.Queue.slack panel.new.queue ≡ limits_at P.Queue.room P.Queue.slack panel.old.queue }
 {
     match panel.offer(reading) {
         Ok(_left) => {}
@@ -38,9 +38,9 @@ pub(crate) fn show_figure<P: Queue<Reading>>(
     place: u32,
 )
     requires room { vec_len lines.old < vec_capacity lines.old }
-    ensures did { (l : Limits) (phase : Phase) → Did l (limits_at room slack panel.old.queue) phase (held panel.old.queue) commands.Show place lines.old.items phase (held panel.new.queue) lines.new.items }
+    ensures did { (l : Limits) (phase : Phase) → Did l (limits_at P.Queue.room P.Queue.slack panel.old.queue) phase (P.Queue.held panel.old.queue) commands.Show place lines.old.items phase (P.Queue.held panel.new.queue) lines.new.items }
     ensures capacity { vec_capacity lines.new ≡ vec_capacity lines.old }
-    ensures limits { limits_at room slack panel.new.queue ≡ limits_at room slack panel.old.queue }
+    ensures limits { limits_at P.Queue.room P.Queue.slack panel.new.queue ≡ limits_at P.Queue.room P.Queue.slack panel.old.queue }
 {
     match panel.show() {
         Ok(figure) => lines.push_reserved(Line::Figure(figure)),
@@ -56,9 +56,9 @@ pub(crate) fn outlast<P: Queue<Reading>>(
     place: u32,
 )
     requires room { vec_len lines.old < vec_capacity lines.old }
-    ensures did { (l : Limits) (s : State) → Did l (limits_at room slack panel.old.queue) (closed s) (held panel.old.queue) command place lines.old.items (closed s) (held panel.new.queue) lines.new.items }
+    ensures did { (l : Limits) (s : State) → Did l (limits_at P.Queue.room P.Queue.slack panel.old.queue) (closed s) (P.Queue.held panel.old.queue) command place lines.old.items (closed s) (P.Queue.held panel.new.queue) lines.new.items }
     ensures capacity { vec_capacity lines.new ≡ vec_capacity lines.old }
-    ensures limits { limits_at room slack panel.new.queue ≡ limits_at room slack panel.old.queue }
+    ensures limits { limits_at P.Queue.room P.Queue.slack panel.new.queue ≡ limits_at P.Queue.room P.Queue.slack panel.old.queue }
 {
     match command {
         Command::Reading {

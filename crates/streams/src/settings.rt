@@ -31,7 +31,7 @@ fn set_row<Q: Queue<Telegram>>(
     place: u32,
 )
     requires room { vec_len lines.old < vec_capacity lines.old }
-    ensures did { (l pl : Limits) (readings : List AReading) → Did l pl (rigging_of held show.old) readings (commands.SetRow row pace burst) place lines.old.items (rigging_of held show.new) readings lines.new.items }
+    ensures did { (l pl : Limits) (readings : List AReading) → Did l pl (rigging_of Q.Queue.held show.old) readings (commands.SetRow row pace burst) place lines.old.items (rigging_of Q.Queue.held show.new) readings lines.new.items }
     ensures capacity { vec_capacity lines.new ≡ vec_capacity lines.old }
     ensures queue { show.new.queue ≡ show.old.queue }
 {
