@@ -1,0 +1,2 @@
+// The grouped queue of readings.
+pub use reading_groups::ReadingGroups;

@@ -1,0 +1,2 @@
+// The sorted queue of readings.
+pub use reading_sorted::ReadingSorted;

@@ -1,0 +1,2 @@
+// The grouped queue of telegrams.
+pub use telegram_groups::TelegramGroups;

@@ -1,0 +1,2 @@
+// The sorted queue of telegrams.
+pub use telegram_sorted::TelegramSorted;
