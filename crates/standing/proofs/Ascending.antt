@@ -3,7 +3,7 @@ use Rattle.std.proofs.Common.{◌≡◌, ℕ, zero, suc, ◌+◌, ◌-◌, ◌<�
 use Rattle.std.specs.List.{AllByRecursion as All}
 use Rattle.std.proofs.lemmas.Bool.{cases_Bool}
 use Rattle.std.proofs.lemmas.List.{take-append-drop, drop-drop, drop_all, drop-append-le, drop-replicate, take-replicate, get_or-drop, get_or-take, take-take, length-take-le}
-use Rattle.std.proofs.ByRecursion.{All-get_or, All-from_get_or, All-take, All-weaker}
+use Rattle.std.proofs.ByRecursion.{All-weaker}
 use Rattle.records.specs.Linear.{Linear}
 use Rattle.records.specs.Sorting.{insert, Ascending}
 use Rattle.records.proofs.Sorting.{insert_first, sort_ascending}
