@@ -11,8 +11,8 @@ use records::record::Record;
 // from the end, so a newcomer that stands late costs little.
 pub fn replace_last<R: Record>(cells: &mut [R], x: R) -> R
     requires some { 0 < length cells.old }
-    requires ascending { Ascending order (take (length cells.old - 1) cells.old) }
-    ensures cells { cells.new ≡ insert order x (take (length cells.old - 1) cells.old) }
+    requires ascending { Ascending R.Record.order (take (length cells.old - 1) cells.old) }
+    ensures cells { cells.new ≡ insert R.Record.order x (take (length cells.old - 1) cells.old) }
     ensures out { (d : R) → result ≡ slice_index_or cells.old (length cells.old - 1) d }
 {
     let n = cells.len();
@@ -29,7 +29,7 @@ pub fn replace_last<R: Record>(cells: &mut [R], x: R) -> R
 // Drops the first cell, sets x among the others by the order, and answers what was dropped.
 pub fn replace_first<R: Record>(cells: &mut [R], x: R) -> R
     requires some { 0 < length cells.old }
-    ensures cells { cells.new ≡ insert order x (drop 1 cells.old) }
+    ensures cells { cells.new ≡ insert R.Record.order x (drop 1 cells.old) }
     ensures out { (d : R) → result ≡ slice_index_or cells.old 0 d }
 {
     let n = cells.len();
@@ -45,7 +45,7 @@ pub fn replace_first<R: Record>(cells: &mut [R], x: R) -> R
 
 // Sets each cell blank.
 pub fn blank_all<R: Record>(cells: &mut [R])
-    ensures { cells.new ≡ replicate (length cells.old) last }
+    ensures { cells.new ≡ replicate (length cells.old) R.Record.last }
 {
     for cell in cells.iter_mut() {
         *cell = R::blank();
