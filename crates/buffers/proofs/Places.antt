@@ -1,5 +1,5 @@
 -- Bytes put into a buffer, one after the other.
-use Rattle.std.proofs.Common.{◌≡◌, ℕ, ◌+◌, ◌-◌, ◌<◌, ◌≤◌, List, [], ◌∷◌, ◌++◌, length, take, drop, set, Ok, Result, sym, refl, ap, ◌∙◌, add_assoc, zero-add, add-one, arith}
+use Rattle.std.proofs.Common.{◌≡◌, ℕ, ◌+◌, ◌≤◌, List, [], ◌∷◌, ◌++◌, length, take, drop, set, Ok, Result, ◌∙◌, add_assoc, zero-add, add-one, arith}
 use Rattle.std.proofs.lemmas.List.{set_split, length-take-le, length-append, take_at, drop_at, drop-drop, append_assoc}
 use Rattle.std.proofs.lemmas.Bool.{le-leb}
 use Rattle.buffers.specs.declared.faults.WireFault.{WireFault}

@@ -1,4 +1,4 @@
-use Rattle.std.proofs.Common.{refl, arith}
+use Rattle.std.proofs.Common.{refl}
 use Rattle.buffers.proofs.Places.{set_is}
 use Rattle.buffers.proofs.bytes.put_byte.Goals as goal
 
