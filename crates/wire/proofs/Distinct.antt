@@ -1,6 +1,5 @@
 -- The words of each line, and the line that words tell: lines that differ have texts that differ.
 use Rattle.std.proofs.Common.{◌≡◌, ℕ, suc, ◌+◌, ◌-◌, ◌*◌, ◌^◌, ◌<◌, ◌≤◌, false, cond, eqb, List, [], ◌∷◌, ◌++◌, length, get_or, drop, ℤ, pos, negsuc, codes, decimal, sym, refl, ap, ◌∙◌, subst, arith, w32, SFits}
-use native.Mathlib.Nat.{add-sub_cancel_left}
 use Rattle.std.specs.Str.Parse.{digits_value}
 use Rattle.std.specs.Fmt.{signed_decimal}
 use Rattle.std.specs.List.{AllByRecursion as All}

@@ -1,13 +1,12 @@
 -- Runs of the reader over whole streams.
-use Rattle.std.proofs.Common.{◌≡◌, ℕ, ◌+◌, ◌<◌, List, [], ◌∷◌, ◌++◌, length, get_or, drop, Some, Ok, sym, refl, ap, ◌∙◌, subst, arith}
+use Rattle.std.proofs.Common.{◌≡◌, ℕ, ◌+◌, List, [], ◌∷◌, ◌++◌, length, drop, sym, refl, ap, subst, arith}
 use Rattle.std.proofs.lemmas.List.{drop_at, get_or-drop, append_cancel_left}
 use Rattle.std.specs.List.{AllByRecursion as All}
 use Rattle.wire.specs.declared.commands.Command.{Command}
-use Rattle.wire.specs.declared.commands.Found.{Found}
 use Rattle.wire.specs.Bytes.{Bytes}
 use Rattle.wire.specs.Encoding.{encode, Fits}
-use Rattle.wire.specs.Decoding.{found, read_of}
-use Rattle.wire.specs.Streams.{Reads, end, next, stream, StreamReads, StreamWrites, OneReading, OneEncoding}
+use Rattle.wire.specs.Decoding.{found}
+use Rattle.wire.specs.Streams.{Reads, end, next, stream, StreamWrites, OneReading, OneEncoding}
 use Rattle.wire.proofs.Trips.{read_again, read_back}
 
 pub stream_reads : (cs : List Command) → All Fits cs → Reads (stream cs) cs

@@ -1,5 +1,5 @@
 -- Big-endian numbers, there and back, at every width.
-use Rattle.std.proofs.Common.{◌≡◌, ℕ, zero, suc, ◌+◌, ◌*◌, ◌/◌, ◌%◌, ◌^◌, ◌<◌, ◌≤◌, List, [], ◌∷◌, ◌++◌, length, get_or, take, drop, sym, refl, ap, ◌∙◌, subst, mod-eq_of_lt, mul_assoc, arith, lit<}
+use Rattle.std.proofs.Common.{◌≡◌, ℕ, zero, suc, ◌+◌, ◌*◌, ◌/◌, ◌%◌, ◌^◌, ◌<◌, ◌≤◌, List, [], ◌∷◌, ◌++◌, length, get_or, take, drop, sym, refl, ap, ◌∙◌, mod-eq_of_lt, mul_assoc, arith, lit<}
 use native.Mathlib.Nat.{mul-add-div_right, mul-add-mod_self_right, mod-one, one-le-pow, pow-succ'}
 use lib.Arith.{mod-mul, digits_lt, digits_div}
 use Rattle.std.proofs.lemmas.List.{length-take-le, drop_more, length-drop, take-append-drop, drop-drop, get_or-drop}
