@@ -4,7 +4,7 @@ use Rattle.std.specs.List.{AllByRecursion as All}
 use Rattle.std.proofs.lemmas.List.{length-append, append_assoc, get_or-append-add}
 use Rattle.std.proofs.ByRecursion.{All-weaker, All-append}
 use Rattle.std.proofs.lemmas.Bool.{cases_Bool, both_ways, le-ltb}
-use Rattle.records.specs.Sorting.{insert, later_than, same}
+use Rattle.records.specs.Sorting.{insert, later_than}
 use Rattle.records.specs.Telegrams.{stands, blank}
 use Rattle.records.specs.declared.telegram.Telegram.{Telegram}
 use Rattle.records.proofs.Sorting.{length_insert, all_insert, all_insert_back, insert_past}

@@ -1,5 +1,5 @@
 -- A running show, and what each of its calls does to it. These are the relations that the contracts of the calls state, and that histories are made of.
-use Rattle.std.specs.Prelude.{◌≡◌, ℕ, ◌+◌, min, Bool, true, false, cond, not, ◌&&◌, ◌||◌, List, [], ◌∷◌, ◌++◌, length, set, Some, None, Ok, Err, Option, Result, ◌==◌, nat_le, nat_lt, slice_index_or, slice_set}
+use Rattle.std.specs.Prelude.{◌≡◌, ℕ, ◌+◌, min, Bool, true, false, cond, not, ◌&&◌, ◌||◌, List, [], ◌∷◌, ◌++◌, length, Some, None, Ok, Err, Option, Result, ◌==◌, nat_le, nat_lt, slice_index_or, slice_set}
 use Rattle.records.specs.Telegrams.{stands, blank}
 use Rattle.records.specs.declared.telegram.Telegram.{Telegram}
 use Rattle.queues.specs.Queues.{Puts, Takes, Exchanges, put_of, told}

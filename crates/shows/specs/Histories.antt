@@ -1,5 +1,5 @@
 -- Histories of a show: its making, then its calls with their answers; and what is read off them.
-use Rattle.std.specs.Prelude.{ℕ, cond, List, [], ◌∷◌, ◌++◌, set, replicate, Some, Ok, Err, Result, nat_lt, slice_set}
+use Rattle.std.specs.Prelude.{ℕ, cond, List, [], ◌∷◌, ◌++◌, replicate, Some, Ok, Err, Result, nat_lt, slice_set}
 use Rattle.std.specs.Option.{option_to_list}
 use Rattle.records.specs.declared.telegram.Telegram.{Telegram}
 use Rattle.shows.specs.Timing.{no_row}
