@@ -1,13 +1,13 @@
 -- What a step over cells means for the records that they hold.
-use Rattle.std.proofs.Common.{◌≡◌, ℕ, zero, suc, ◌+◌, ◌-◌, ◌<◌, ◌≤◌, Bool, true, false, cond, not, List, [], ◌∷◌, ◌++◌, length, get_or, drop, Ok, Err, filter, sym, refl, ap, ◌∙◌, subst, inl, inr, ⊎_elim, arith}
+use Rattle.std.proofs.Common.{◌≡◌, ℕ, ◌+◌, ◌<◌, ◌≤◌, Bool, true, false, cond, not, List, [], ◌∷◌, length, Ok, Err, filter, sym, refl, ap, ◌∙◌, subst, inl, inr, ⊎_elim, arith}
 use Rattle.std.proofs.lemmas.Bool.{cases_Bool, cond-true, cond-false, cond_both, both_ways, not-true, not_from_true, not_from_false}
 use Rattle.std.proofs.ByRecursion.{All-weaker, all_kept_by, kept_by_passes}
 use Rattle.std.specs.List.{AllByRecursion as All}
 use Rattle.records.specs.Linear.{Linear}
 use Rattle.records.specs.Sorting.{insert, sort, Ascending, later_than, Filled}
-use Rattle.records.proofs.Sorting.{length_insert, all_insert, insert_first, insert_past, insert_insert, le_refl, other_way, above, ascending_insert, ascending_sort}
-use Rattle.queues.specs.Queues.{Lawful, SameLimits, Puts, Takes, Exchanges, Displaces, Trades, first_of}
-use Rattle.queues.specs.Cells.{held_in, put_answer, take_answer, exchange_answer}
+use Rattle.records.proofs.Sorting.{length_insert, all_insert, insert_first, insert_past, insert_insert, le_refl, other_way, above, ascending_sort}
+use Rattle.queues.specs.Queues.{Lawful, Puts, Takes, Exchanges, first_of}
+use Rattle.queues.specs.Cells.{held_in, take_answer, exchange_answer}
 use Rattle.queues.specs.declared.queue.Put.TheVariants.{Kept, Displaced}
 use Rattle.queues.specs.declared.fault.QueueFault.TheVariants.{Empty, Blank}
 

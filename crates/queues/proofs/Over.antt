@@ -1,5 +1,5 @@
 -- A queue that is held another way: the same meaning read off another value.
-use Rattle.std.proofs.Common.{◌≡◌, ℕ, ◌<◌, Bool, true, false, List, ◌∷◌, length, is_ok, Ok, Err, Result, sym, refl, ap, ◌∙◌, subst, inl, inr, ⊎_elim}
+use Rattle.std.proofs.Common.{◌≡◌, ℕ, ◌<◌, Bool, List, ◌∷◌, length, Ok, Err, Result, sym, refl, ap, ◌∙◌, subst, inl, inr, ⊎_elim}
 use Rattle.records.specs.Sorting.{insert, later_than}
 use Rattle.queues.specs.Queues.{SameLimits, Puts, Takes, Exchanges}
 use Rattle.queues.specs.declared.queue.Put.{Put}

@@ -1,10 +1,10 @@
 -- Lemmas on ascending lists.
-use Rattle.std.proofs.Common.{◌≡◌, ℕ, ◌+◌, ◌≤◌, Bool, true, false, cond, ◌⊎◌, List, [], ◌∷◌, length, sym, refl, ap, ◌∙◌, subst, inl, inr, ⊎_elim, add-one, arith}
+use Rattle.std.proofs.Common.{◌≡◌, ◌+◌, ◌≤◌, Bool, true, false, cond, List, [], ◌∷◌, length, sym, refl, ◌∙◌, ⊎_elim, arith}
 use mathlib.Core.List.{Permᴰ}
 use Rattle.std.specs.List.{AllByRecursion as All}
 use Rattle.std.proofs.lemmas.Bool.{cases_Bool}
 use Rattle.records.specs.Linear.{Linear}
-use Rattle.records.specs.Sorting.{insert, sort, Ascending, later_than, Filled}
+use Rattle.records.specs.Sorting.{insert, sort, Ascending, later_than}
 
 module _ {R : Type 0} (le : R → R → Bool) where
   pub length_insert : (x : R) (xs : List R) → length (insert le x xs) ≡ length xs + 1

@@ -1,6 +1,5 @@
 -- Readings stand in a total order.
 use Rattle.std.specs.Prelude.{◌≡◌}
-use Rattle.std.proofs.Common.{ap}
 use mathlib.Core.HLevel.{is_prop→PathP}
 use denote.Struct.Props.{props}
 use Rattle.records.specs.Linear.{Linear}
