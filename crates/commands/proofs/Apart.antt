@@ -1,9 +1,9 @@
 -- What each pattern of the reader takes from the bytes.
-use Rattle.std.proofs.Common.{◌≡◌, ℕ, ◌+◌, ◌-◌, ◌*◌, ◌^◌, ◌<◌, ◌≤◌, List, length, get_or, take, drop, ℤ, Some, Ok, sym, refl, ap, ◌∙◌, arith, w32, to_z, of_z}
+use Rattle.std.proofs.Common.{◌≡◌, ℕ, ◌+◌, ◌-◌, ◌*◌, ◌^◌, ◌<◌, ◌≤◌, List, length, get_or, take, drop, ℤ, Some, Ok, sym, ap, ◌∙◌, arith, w32, to_z, of_z}
 use Rattle.std.proofs.lemmas.List.{take_rest, length-drop, drop-drop, get_or-drop}
 use Rattle.std.proofs.lemmas.Int.{of_z-to_z}
 use Rattle.wire.specs.declared.commands.Command.{Command}
-use Rattle.wire.specs.declared.commands.Command.TheVariants.{SetRow, Start, Admit, Release, Exchange, Reading, Show, Close}
+use Rattle.wire.specs.declared.commands.Command.TheVariants.{SetRow, Reading}
 use Rattle.wire.specs.Bytes.{field}
 use Rattle.wire.specs.Decoding.{width_of, command_of, found, read_of}
 use Rattle.wire.proofs.Codes.{read_whole}

@@ -8,8 +8,8 @@ returns-then-byte-eq3 c =
     let op : get_or c.args.bytes.now 0 0 ≡ 3 = search rules in
     record {
       within = late_within c.args.bytes.now c.requires.room;
-      answer = late_apart c.args.bytes.now 3 Admit c.from-be-bytes-at.result c.from-be-bytes-length.result c.from-be-bytes-handle.result refl refl c.requires.room op
-          c.from-be-bytes-at.ensures c.from-be-bytes-length.ensures c.from-be-bytes-handle.ensures;
+      answer = late_apart c.args.bytes.now 3 Admit c.from_be_bytes-at.result c.from_be_bytes-length.result c.from_be_bytes-handle.result refl refl c.requires.room op
+          c.from_be_bytes-at.ensures c.from_be_bytes-length.ensures c.from_be_bytes-handle.ensures;
     }
 
 pub returns : goal.returns
@@ -17,6 +17,6 @@ returns c =
     let op : get_or c.args.bytes.now 0 0 ≡ 5 = search rules in
     record {
       within = late_within c.args.bytes.now c.requires.room;
-      answer = late_apart c.args.bytes.now 5 Exchange c.from-be-bytes-at.result c.from-be-bytes-length.result c.from-be-bytes-handle.result refl refl c.requires.room op
-          c.from-be-bytes-at.ensures c.from-be-bytes-length.ensures c.from-be-bytes-handle.ensures;
+      answer = late_apart c.args.bytes.now 5 Exchange c.from_be_bytes-at.result c.from_be_bytes-length.result c.from_be_bytes-handle.result refl refl c.requires.room op
+          c.from_be_bytes-at.ensures c.from_be_bytes-length.ensures c.from_be_bytes-handle.ensures;
     }

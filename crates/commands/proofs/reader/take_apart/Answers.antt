@@ -1,6 +1,6 @@
 use Rattle.std.proofs.Common.{◌≡◌, ◌≤◌, length, get_or, refl, ap, arith, w32, to_z, of_z, rules, ltb-false}
-use Rattle.wire.specs.declared.commands.Command.TheVariants.{SetRow, Start, Admit, Release, Exchange, Reading, Show, Close}
-use Rattle.commands.proofs.Apart.{apart, rest_within, set_row_is, time_is, admission_is, reading_is}
+use Rattle.wire.specs.declared.commands.Command.TheVariants.{SetRow, Start, Release, Reading, Show, Close}
+use Rattle.commands.proofs.Apart.{apart, rest_within, set_row_is, time_is, reading_is}
 use Rattle.commands.proofs.reader.take_apart.Goals as goal
 
 pub returns-in-1 : goal.returns-in-1
@@ -9,8 +9,8 @@ returns-in-1 c =
     let op : get_or c.args.bytes.now 0 0 ≡ 1 = search rules in
     record {
       within = rest_within c.args.bytes.now 7 n;
-      answer = apart c.args.bytes.now 1 7 (SetRow (get_or c.args.bytes.now 1 0) c.from-be-bytes-pace.result c.from-be-bytes-burst.result) refl n op
-          (set_row_is c.args.bytes.now c.from-be-bytes-pace.result c.from-be-bytes-burst.result n c.from-be-bytes-pace.ensures c.from-be-bytes-burst.ensures);
+      answer = apart c.args.bytes.now 1 7 (SetRow (get_or c.args.bytes.now 1 0) c.from_be_bytes-pace.result c.from_be_bytes-burst.result) refl n op
+          (set_row_is c.args.bytes.now c.from_be_bytes-pace.result c.from_be_bytes-burst.result n c.from_be_bytes-pace.ensures c.from_be_bytes-burst.ensures);
     }
 
 pub returns-in-2 : goal.returns-in-2
@@ -25,8 +25,8 @@ returns-in-4 c =
     let op : get_or c.args.bytes.now 0 0 ≡ 4 = search rules in
     record {
       within = rest_within c.args.bytes.now 8 n;
-      answer = apart c.args.bytes.now 4 8 (Release c.from-be-bytes-at.result) refl n op
-          (ap Release (time_is c.args.bytes.now c.from-be-bytes-at.result n c.from-be-bytes-at.ensures));
+      answer = apart c.args.bytes.now 4 8 (Release c.from_be_bytes-at.result) refl n op
+          (ap Release (time_is c.args.bytes.now c.from_be_bytes-at.result n c.from_be_bytes-at.ensures));
     }
 
 pub returns-in-6 : goal.returns-in-6
@@ -35,8 +35,8 @@ returns-in-6 c =
     let op : get_or c.args.bytes.now 0 0 ≡ 6 = search rules in
     record {
       within = rest_within c.args.bytes.now 9 n;
-      answer = apart c.args.bytes.now 6 9 (Reading (get_or c.args.bytes.now 1 0) (to_z w32 (of_z w32 c.from-be-bytes-position.result)) (to_z w32 (of_z w32 c.from-be-bytes-target.result))) refl n op
-          (reading_is c.args.bytes.now (λ i. (c.type-inv.bytes i).fits) c.from-be-bytes-position.result c.from-be-bytes-target.result n c.from-be-bytes-position.ensures c.from-be-bytes-target.ensures);
+      answer = apart c.args.bytes.now 6 9 (Reading (get_or c.args.bytes.now 1 0) (to_z w32 (of_z w32 c.from_be_bytes-position.result)) (to_z w32 (of_z w32 c.from_be_bytes-target.result))) refl n op
+          (reading_is c.args.bytes.now (λ i. (c.type_inv.bytes i).fits) c.from_be_bytes-position.result c.from_be_bytes-target.result n c.from_be_bytes-position.ensures c.from_be_bytes-target.ensures);
     }
 
 pub returns-in-7 : goal.returns-in-7

@@ -8,10 +8,10 @@ returns-in-SetRow c =
     let room : 96 ≤ length c.args.out.now = omega arith in
     let cmd = SetRow c.in-SetRow.row c.in-SetRow.pace c.in-SetRow.burst in
     record {
-      count = wrote_count cmd c.args.command.now c.in-SetRow.is c.args.out.now c.set-row-bytes.result room c.set-row-bytes.ensures.bytes c.put-count.result c.put-count.ensures.count;
-      buffer = wrote_buffer cmd c.args.command.now c.in-SetRow.is c.args.out.now c.set-row-bytes.result room c.set-row-bytes.ensures.bytes c.put-count.new.out c.put-count.ensures.buffer;
+      count = wrote_count cmd c.args.command.now c.in-SetRow.is c.args.out.now c.set_row_bytes.result room c.set_row_bytes.ensures.bytes c.put-count.result c.put-count.ensures.count;
+      buffer = wrote_buffer cmd c.args.command.now c.in-SetRow.is c.args.out.now c.set_row_bytes.result room c.set_row_bytes.ensures.bytes c.put-count.new.out c.put-count.ensures.buffer;
       within = omega arith;
-      reads = λ _. wrote_reads cmd c.args.command.now c.in-SetRow.is c.args.out.now c.set-row-bytes.result room c.set-row-bytes.ensures.bytes c.set-row-bytes.ensures.fits c.put-count.new.out c.put-count.ensures.buffer;
+      reads = λ _. wrote_reads cmd c.args.command.now c.in-SetRow.is c.args.out.now c.set_row_bytes.result room c.set_row_bytes.ensures.bytes c.set_row_bytes.ensures.fits c.put-count.new.out c.put-count.ensures.buffer;
     }
 
 pub returns-in-Admit : goal.returns-in-Admit
@@ -19,10 +19,10 @@ returns-in-Admit c =
     let room : 96 ≤ length c.args.out.now = omega arith in
     let cmd = Admit c.in-Admit.at c.in-Admit.row c.in-Admit.length c.in-Admit.handle in
     record {
-      count = wrote_count cmd c.args.command.now c.in-Admit.is c.args.out.now c.admission-bytes.result room c.admission-bytes.ensures.bytes c.put-count-in-Admit.result c.put-count-in-Admit.ensures.count;
-      buffer = wrote_buffer cmd c.args.command.now c.in-Admit.is c.args.out.now c.admission-bytes.result room c.admission-bytes.ensures.bytes c.put-count-in-Admit.new.out c.put-count-in-Admit.ensures.buffer;
+      count = wrote_count cmd c.args.command.now c.in-Admit.is c.args.out.now c.admission_bytes.result room c.admission_bytes.ensures.bytes c.put-count-in-Admit.result c.put-count-in-Admit.ensures.count;
+      buffer = wrote_buffer cmd c.args.command.now c.in-Admit.is c.args.out.now c.admission_bytes.result room c.admission_bytes.ensures.bytes c.put-count-in-Admit.new.out c.put-count-in-Admit.ensures.buffer;
       within = omega arith;
-      reads = λ _. wrote_reads cmd c.args.command.now c.in-Admit.is c.args.out.now c.admission-bytes.result room c.admission-bytes.ensures.bytes c.admission-bytes.ensures.fits c.put-count-in-Admit.new.out c.put-count-in-Admit.ensures.buffer;
+      reads = λ _. wrote_reads cmd c.args.command.now c.in-Admit.is c.args.out.now c.admission_bytes.result room c.admission_bytes.ensures.bytes c.admission_bytes.ensures.fits c.put-count-in-Admit.new.out c.put-count-in-Admit.ensures.buffer;
     }
 
 pub returns-in-Exchange : goal.returns-in-Exchange
@@ -30,10 +30,10 @@ returns-in-Exchange c =
     let room : 96 ≤ length c.args.out.now = omega arith in
     let cmd = Exchange c.in-Exchange.at c.in-Exchange.row c.in-Exchange.length c.in-Exchange.handle in
     record {
-      count = wrote_count cmd c.args.command.now c.in-Exchange.is c.args.out.now c.admission-bytes-in-Exchange.result room c.admission-bytes-in-Exchange.ensures.bytes c.put-count-in-Exchange.result c.put-count-in-Exchange.ensures.count;
-      buffer = wrote_buffer cmd c.args.command.now c.in-Exchange.is c.args.out.now c.admission-bytes-in-Exchange.result room c.admission-bytes-in-Exchange.ensures.bytes c.put-count-in-Exchange.new.out c.put-count-in-Exchange.ensures.buffer;
+      count = wrote_count cmd c.args.command.now c.in-Exchange.is c.args.out.now c.admission_bytes-in-Exchange.result room c.admission_bytes-in-Exchange.ensures.bytes c.put-count-in-Exchange.result c.put-count-in-Exchange.ensures.count;
+      buffer = wrote_buffer cmd c.args.command.now c.in-Exchange.is c.args.out.now c.admission_bytes-in-Exchange.result room c.admission_bytes-in-Exchange.ensures.bytes c.put-count-in-Exchange.new.out c.put-count-in-Exchange.ensures.buffer;
       within = omega arith;
-      reads = λ _. wrote_reads cmd c.args.command.now c.in-Exchange.is c.args.out.now c.admission-bytes-in-Exchange.result room c.admission-bytes-in-Exchange.ensures.bytes c.admission-bytes-in-Exchange.ensures.fits c.put-count-in-Exchange.new.out c.put-count-in-Exchange.ensures.buffer;
+      reads = λ _. wrote_reads cmd c.args.command.now c.in-Exchange.is c.args.out.now c.admission_bytes-in-Exchange.result room c.admission_bytes-in-Exchange.ensures.bytes c.admission_bytes-in-Exchange.ensures.fits c.put-count-in-Exchange.new.out c.put-count-in-Exchange.ensures.buffer;
     }
 
 pub returns-in-Reading : goal.returns-in-Reading
@@ -44,8 +44,8 @@ returns-in-Reading c =
     let cmd = Reading c.in-Reading.row (to_z w32 (of_z w32 c.in-Reading.position)) (to_z w32 (of_z w32 c.in-Reading.target)) in
     let is = c.in-Reading.is ∙ reading_kept c.in-Reading.row c.in-Reading.position c.in-Reading.target p t in
     record {
-      count = wrote_count cmd c.args.command.now is c.args.out.now c.reading-bytes.result room c.reading-bytes.ensures.bytes c.put-count-in-Reading.result c.put-count-in-Reading.ensures.count;
-      buffer = wrote_buffer cmd c.args.command.now is c.args.out.now c.reading-bytes.result room c.reading-bytes.ensures.bytes c.put-count-in-Reading.new.out c.put-count-in-Reading.ensures.buffer;
+      count = wrote_count cmd c.args.command.now is c.args.out.now c.reading_bytes.result room c.reading_bytes.ensures.bytes c.put-count-in-Reading.result c.put-count-in-Reading.ensures.count;
+      buffer = wrote_buffer cmd c.args.command.now is c.args.out.now c.reading_bytes.result room c.reading_bytes.ensures.bytes c.put-count-in-Reading.new.out c.put-count-in-Reading.ensures.buffer;
       within = omega arith;
-      reads = λ _. wrote_reads cmd c.args.command.now is c.args.out.now c.reading-bytes.result room c.reading-bytes.ensures.bytes c.reading-bytes.ensures.fits c.put-count-in-Reading.new.out c.put-count-in-Reading.ensures.buffer;
+      reads = λ _. wrote_reads cmd c.args.command.now is c.args.out.now c.reading_bytes.result room c.reading_bytes.ensures.bytes c.reading_bytes.ensures.fits c.put-count-in-Reading.new.out c.put-count-in-Reading.ensures.buffer;
     }
