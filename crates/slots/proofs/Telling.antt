@@ -1,8 +1,7 @@
 -- One turn of a forecast, over what is left of the lengths.
-use Rattle.std.proofs.Common.{◌≡◌, ℕ, ◌+◌, ◌<◌, ◌≤◌, List, [], ◌∷◌, ◌++◌, length, get_or, take, drop, set, Ok, Err, sym, refl, ap, ◌∙◌, arith}
+use Rattle.std.proofs.Common.{◌≡◌, ℕ, ◌+◌, ◌<◌, ◌≤◌, List, [], ◌∷◌, ◌++◌, length, get_or, take, drop, set, Ok, Err, sym, ap, ◌∙◌, arith}
 use Rattle.std.proofs.lemmas.List.{drop_more, take_more_set, append_assoc, append-nil, drop-set-lt, drop-drop, length-take-le, take-append-drop}
 use Rattle.std.proofs.lemmas.Bool.{cond-true, cond-false, eq-eqb, ne_eqb}
-use Rattle.shows.specs.Faults.{number}
 use Rattle.shows.specs.Timing.{release_of, row_after, length_refusal, forecast_times, forecast_refusal, written}
 use Rattle.shows.specs.declared.fault.ForecastFault.{ForecastFault}
 use Rattle.shows.specs.declared.fault.ForecastFault.TheVariants.{Whole, At}
