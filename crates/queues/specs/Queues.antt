@@ -1,6 +1,6 @@
 -- What a queue means, and what each call does to that. A queue's value is read by three functions: `held`, its collection as one ascending list in which equal records repeat, `room`, its capacity, and `slack`.
 use Rattle.std.specs.Prelude.{◌≡◌, ℕ, ◌<◌, ◌≤◌, min, Bool, ◌⊎◌, List, [], ◌∷◌, length, Some, None, Ok, Err, Option, Result}
-use Rattle.std.specs.List.{AllByRecursion as All}
+use Rattle.std.specs.List.{AllByRecursion}
 use Rattle.records.specs.Sorting.{insert, later_than, Ascending, Filled}
 use Rattle.queues.specs.Faults.{number}
 use Rattle.queues.specs.declared.queue.Put.{Put}
@@ -10,7 +10,7 @@ use Rattle.queues.specs.declared.fault.QueueFault.{QueueFault}
 -- what holds of every queue, between any two calls
 pub record Lawful {R : Type 0} (le : R → R → Bool) (blank : R) (held : List R) (room slack : ℕ) : Type 0 where
   pub ascends : Ascending le held
-  pub filled : All (Filled le blank) held
+  pub filled : AllByRecursion (Filled le blank) held
   pub within : length held ≤ room
   pub roomy : 1 ≤ room
   pub slackens : 1 ≤ slack

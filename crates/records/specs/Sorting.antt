@@ -1,6 +1,6 @@
 -- Ascending lists under an order that is given by a test `le x y`, "x stands no later than y".
 use Rattle.std.specs.Prelude.{◌≡◌, ℕ, ◌+◌, Bool, true, false, cond, ◌&&◌, List, [], ◌∷◌}
-use Rattle.std.specs.List.{AllByRecursion as All}
+use Rattle.std.specs.List.{AllByRecursion}
 
 -- the list with one more: x goes before the first that it stands no later than
 abbrev pub insert : {R : Type 0} → (R → R → Bool) → R → List R → List R
@@ -15,7 +15,7 @@ sort le (x ∷ xs) = insert le x (sort le xs)
 -- each stands no later than all that follow
 abbrev pub Ascending : {R : Type 0} → (R → R → Bool) → List R → Type 0
 Ascending le [] = Unit {0}
-Ascending le (x ∷ xs) = All (λ y. le x y ≡ true) xs × Ascending le xs
+Ascending le (x ∷ xs) = AllByRecursion (λ y. le x y ≡ true) xs × Ascending le xs
 
 -- how many of the list stand after d
 abbrev pub later_than : {R : Type 0} → (R → R → Bool) → R → List R → ℕ

@@ -2,7 +2,7 @@
 use Rattle.std.specs.Prelude.{◌≡◌, ℕ, ◌+◌, ◌<◌, ◌≤◌, Bool, true, false, cond, not, ◌&&◌, List, [], ◌∷◌, length, Ok, Err, MatchBool, Result, ◌≢◌, refl}
 use Rattle.std.proofs.Common.{sym, ap, subst, ◌∙◌, ⊎_elim, inl, inr, arith}
 use Rattle.std.proofs.lemmas.Bool.{cases_Bool, cond-true, cond-false, cond_both, both_ways, not_from_true, not_from_false}
-use Rattle.std.specs.List.{AllByRecursion as All}
+use Rattle.std.specs.List.{AllByRecursion}
 use Rattle.records.specs.Linear.{Linear}
 use Rattle.records.specs.Sorting.{insert, Ascending, later_than, Filled, earlier, later}
 use Rattle.records.proofs.Sorting.{length_insert, all_insert, later_insert, ascending_insert, insert_insert, insert_first, insert_past, le_refl, above}
@@ -28,7 +28,7 @@ module _ {R : Type 0} (le : R → R → Bool) (blank : R) where
     pub cell_lawful : (c : R) (held : List R) (room slack : ℕ) → Lawful le blank held room slack → Lawful le blank (with_cell le blank c held) (room + 1) (slack + 1)
     cell_lawful c held room slack w = record {
       ascends = cond_both (le blank c) held (insert le c held) (Ascending le) (λ _. w.ascends) (λ _. ascending_insert le l c held w.ascends);
-      filled = cond_both (le blank c) held (insert le c held) (All (Filled le blank)) (λ _. w.filled) (λ f. all_insert le (Filled le blank) c held f w.filled);
+      filled = cond_both (le blank c) held (insert le c held) (AllByRecursion (Filled le blank)) (λ _. w.filled) (λ f. all_insert le (Filled le blank) c held f w.filled);
       within = let h = w.within in let n = length_insert le c held in cond_both (le blank c) held (insert le c held) (λ v. length v ≤ room + 1) (λ _. omega arith) (λ _. omega arith);
       roomy = omega arith;
       slackens = omega arith;
