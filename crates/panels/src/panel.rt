@@ -36,7 +36,7 @@ impl<Q: Queue<Reading>> Panel<Q> {
 
     // Takes a reading in, and answers the one that left for it. Refuses one out of bounds (16).
     pub fn offer(&mut self, reading: Reading) -> Result<Option<Reading>, PanelFault>
-        ensures offers { Offers held room slack self.old.queue reading result self.new.queue }
+        ensures offers { Offers Q.Queue.held Q.Queue.room Q.Queue.slack self.old.queue reading result self.new.queue }
         ensures stays { is_ok result ≡ false → self.new ≡ self.old }
     {
         if !is_in_bounds(&reading) {
@@ -51,7 +51,7 @@ impl<Q: Queue<Reading>> Panel<Q> {
     // Takes the first reading out and answers its position, in millimetres. Refuses where there is
     // none (8, the queue's own).
     pub fn show(&mut self) -> Result<i32, PanelFault>
-        ensures shows { Shows held room slack self.old.queue result self.new.queue }
+        ensures shows { Shows Q.Queue.held Q.Queue.room Q.Queue.slack self.old.queue result self.new.queue }
         ensures stays { is_ok result ≡ false → self.new ≡ self.old }
     {
         let reading = self.queue.take()?;

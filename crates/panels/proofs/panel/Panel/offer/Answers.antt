@@ -6,17 +6,17 @@ use Rattle.panels.specs.Panels.{in_bounds}
 use Rattle.panels.proofs.panel.Panel.offer.Goals as goal
 
 -- the blank is out of bounds, so the queue refuses no reading that is offered to it
-pub returns-in-err-put : goal.returns-in-err-put
-returns-in-err-put g c = absurd (true≢false (c.if-not-is-in-bounds.ensures ∙ ap in_bounds c.in-err-put.ensures.puts.0))
+pub returns-in_err-put : goal.returns-in_err-put
+returns-in_err-put g c = absurd (true≢false (c.if-not-is_in_bounds.ensures ∙ ap in_bounds c.in_err-put.ensures.puts.0))
 
 pub returns-in-Kept : goal.returns-in-Kept
 returns-in-Kept g c =
     let m = g.Q.Queue in
-    let puts = subst (λ p. Puts stands blank m.held m.room m.slack c.args.self.now.queue c.args.reading (Ok p) c.put.new.self) c.in-Kept.is c.in-ok-put.ensures.puts in
-    record { offers = (sym c.if-not-is-in-bounds.ensures, puts); stays = λ e. absurd (true≢false e) }
+    let puts = subst (λ p. Puts stands blank m.held m.room m.slack c.args.self.now.queue c.args.reading (Ok p) c.put.new.self) c.in-Kept.is c.in_ok-put.ensures.puts in
+    record { offers = (sym c.if-not-is_in_bounds.ensures, puts); stays = λ e. absurd (true≢false e) }
 
 pub returns-in-Displaced : goal.returns-in-Displaced
 returns-in-Displaced g c =
     let m = g.Q.Queue in
-    let puts = subst (λ p. Puts stands blank m.held m.room m.slack c.args.self.now.queue c.args.reading (Ok p) c.put.new.self) c.in-Displaced.is c.in-ok-put.ensures.puts in
-    record { offers = (sym c.if-not-is-in-bounds.ensures, puts); stays = λ e. absurd (true≢false e) }
+    let puts = subst (λ p. Puts stands blank m.held m.room m.slack c.args.self.now.queue c.args.reading (Ok p) c.put.new.self) c.in-Displaced.is c.in_ok-put.ensures.puts in
+    record { offers = (sym c.if-not-is_in_bounds.ensures, puts); stays = λ e. absurd (true≢false e) }
