@@ -15,9 +15,9 @@ use records::record::Record;
 // hands out.
 pub fn put_step<R: Record>(cells: &mut [R], groups: usize, size: usize, x: R) -> R
     requires fits { Fits groups size (length cells.old) }
-    requires ascends { Ascends order last groups size cells.old }
-    ensures cells { cells.new ≡ put_cells order last groups size x cells.old }
-    ensures out { result ≡ slice_index_or cells.old (groups * size - 1) last }
+    requires ascends { Ascends R.Record.order R.Record.last groups size cells.old }
+    ensures cells { cells.new ≡ put_cells R.Record.order R.Record.last groups size x cells.old }
+    ensures out { result ≡ slice_index_or cells.old (groups * size - 1) R.Record.last }
 {
     let mut z = x;
     for i in 0..groups {
@@ -30,7 +30,7 @@ pub fn put_step<R: Record>(cells: &mut [R], groups: usize, size: usize, x: R) ->
 fn next_first<R: Record>(cells: &[R], groups: usize, size: usize, i: usize) -> R
     requires fits { Fits groups size (length cells.now) }
     requires inside { i < groups }
-    ensures { result ≡ next_a last (groups_of (groups - (i + 1)) size (drop ((i + 1) * size) cells.now)) }
+    ensures { result ≡ next_a R.Record.last (groups_of (groups - (i + 1)) size (drop ((i + 1) * size) cells.now)) }
 {
     if i + 1 < groups {
         cells[(i + 1) * size]
@@ -42,9 +42,9 @@ fn next_first<R: Record>(cells: &[R], groups: usize, size: usize, i: usize) -> R
 // Lets the first record go: each group takes the first record of the next group in.
 pub fn take_step<R: Record>(cells: &mut [R], groups: usize, size: usize) -> R
     requires fits { Fits groups size (length cells.old) }
-    requires ascends { Ascends order last groups size cells.old }
-    ensures cells { cells.new ≡ take_cells order last groups size cells.old }
-    ensures out { result ≡ slice_index_or cells.old 0 last }
+    requires ascends { Ascends R.Record.order R.Record.last groups size cells.old }
+    ensures cells { cells.new ≡ take_cells R.Record.order R.Record.last groups size cells.old }
+    ensures out { result ≡ slice_index_or cells.old 0 R.Record.last }
 {
     let first = cells[0];
     for i in 0..groups {
@@ -56,8 +56,8 @@ pub fn take_step<R: Record>(cells: &mut [R], groups: usize, size: usize) -> R
 
 // Two records, the one that stands first before the other.
 fn by_order<R: Record>(a: R, b: R) -> (R, R)
-    ensures low { result.0 ≡ earlier order a b }
-    ensures high { result.1 ≡ later order a b }
+    ensures low { result.0 ≡ earlier R.Record.order a b }
+    ensures high { result.1 ≡ later R.Record.order a b }
 {
     if a.no_later(&b) { (a, b) } else { (b, a) }
 }
@@ -65,8 +65,8 @@ fn by_order<R: Record>(a: R, b: R) -> (R, R)
 // Sets a and z among the cells of a group in place of its first and last.
 fn refit<R: Record>(group: &mut [R], a: R, z: R)
     requires two { 2 ≤ length group.old }
-    requires ascending { Ascending order group.old }
-    ensures { group.new ≡ insert order a (insert order z (s_of (length group.old) group.old)) }
+    requires ascending { Ascending R.Record.order group.old }
+    ensures { group.new ≡ insert R.Record.order a (insert R.Record.order z (s_of (length group.old) group.old)) }
 {
     let n = group.len();
     let _ = replace_last(&mut group[1..n], z);
@@ -77,9 +77,9 @@ fn refit<R: Record>(group: &mut [R], a: R, z: R)
 // earlier stays and the later goes on.
 pub fn exchange_step<R: Record>(cells: &mut [R], groups: usize, size: usize, x: R) -> R
     requires fits { Fits groups size (length cells.old) }
-    requires ascends { Ascends order last groups size cells.old }
-    ensures cells { cells.new ≡ exchange_cells order last groups size x cells.old }
-    ensures out { result ≡ slice_index_or cells.old 0 last }
+    requires ascends { Ascends R.Record.order R.Record.last groups size cells.old }
+    ensures cells { cells.new ≡ exchange_cells R.Record.order R.Record.last groups size x cells.old }
+    ensures out { result ≡ slice_index_or cells.old 0 R.Record.last }
 {
     let first = cells[0];
     let mut a = x;

@@ -8,17 +8,17 @@ use Rattle.group_steps.proofs.exchange_step.Goals as goal
 pub bounds-cells-0 : goal.bounds-cells-0
 bounds-cells-0 g c = let r = row_end 0 c.args.groups c.args.size c.requires.fits.some in omega arith
 
-pub offset-bounds-cells-i : goal.offset-bounds-cells-i
-offset-bounds-cells-i g c = let r = row_end c.loop-i.i c.args.groups c.args.size c.loop-i-test.true in let h : c.loop-i.i * c.args.size + c.args.size - 1 ≤ length c.loop-i.cells = omega arith in search rules
+pub offset_bounds-cells-i : goal.offset_bounds-cells-i
+offset_bounds-cells-i g c = let r = row_end c.loop-i.i c.args.groups c.args.size c.loop-i-test.true in let h : c.loop-i.i * c.args.size + c.args.size - 1 ≤ length c.loop-i.cells = omega arith in search rules
 
 pub bounds-cells-i : goal.bounds-cells-i
 bounds-cells-i g c = let r = row_end c.loop-i.i c.args.groups c.args.size c.loop-i-test.true in omega arith
 
-pub offset-bounds-cells-i-in-loop-i : goal.offset-bounds-cells-i-in-loop-i
-offset-bounds-cells-i-in-loop-i g c = let r = row_end c.loop-i.i c.args.groups c.args.size c.loop-i-test.true in let h : c.loop-i.i * c.args.size ≤ length c.loop-i.cells = omega arith in search rules
+pub offset_bounds-cells-i-in-loop-i : goal.offset_bounds-cells-i-in-loop-i
+offset_bounds-cells-i-in-loop-i g c = let r = row_end c.loop-i.i c.args.groups c.args.size c.loop-i-test.true in let h : c.loop-i.i * c.args.size ≤ length c.loop-i.cells = omega arith in search rules
 
-pub slice-bounds-refit-end : goal.slice-bounds-refit-end
-slice-bounds-refit-end g c = let r = row_end c.loop-i.i c.args.groups c.args.size c.loop-i-test.true in omega arith
+pub slice_bounds-refit-end : goal.slice_bounds-refit-end
+slice_bounds-refit-end g c = let r = row_end c.loop-i.i c.args.groups c.args.size c.loop-i-test.true in omega arith
 
 pub refit-requires : goal.refit-requires
 refit-requires g c =
@@ -37,7 +37,7 @@ loop-i-preserved g c =
     let ly : c.loop-i.i * c.args.size + c.args.size - 1 < length c.loop-i.cells = omega arith in
     let y = get_or_read c.loop-i.cells z c.index-cells-i.result ly c.index-cells-i.is d in
     let asc = row_ascends le d c.args.groups c.args.size c.loop-i.i E whole c.requires.ascends c.loop-i-test.true in
-    exchange_turn le g.met.R.Record.linear d c.args.groups c.args.size c.loop-i.i c.requires.fits.two E whole c.loop-i-test.true asc c.loop-i.cells _ c.refit.new.group _ (c.loop-i.auto.cells ∙ whole) c.loop-i.invariant.1 refl c.loop-i.a c.next-first-next.result c.index-cells-i.result c.by-order-low.result.0 c.by-order-low.result.1 c.next-first-next.ensures y c.by-order-low.ensures.low c.by-order-low.ensures.high c.refit.ensures c.loop-i.invariant.0
+    exchange_turn le g.met.R.Record.linear d c.args.groups c.args.size c.loop-i.i c.requires.fits.two E whole c.loop-i-test.true asc c.loop-i.cells _ c.refit.new.group _ (c.loop-i.auto.cells ∙ whole) c.loop-i.invariant.1 refl c.loop-i.a c.next_first-next.result c.index-cells-i.result c.by_order-low.result.0 c.by_order-low.result.1 c.next_first-next.ensures y c.by_order-low.ensures.low c.by_order-low.ensures.high c.refit.ensures c.loop-i.invariant.0
 
 pub returns : goal.returns
 returns g c =

@@ -3,8 +3,8 @@ use Rattle.std.proofs.lemmas.List.{get_or_read}
 use Rattle.standing.proofs.Rows.{row_end, next_is}
 use Rattle.group_steps.proofs.next_first.Goals as goal
 
-pub offset-bounds-cells-i : goal.offset-bounds-cells-i
-offset-bounds-cells-i g c = let r = row_end (c.args.i + 1) c.args.groups c.args.size c.if-i-groups.true in omega arith
+pub offset_bounds-cells-i : goal.offset_bounds-cells-i
+offset_bounds-cells-i g c = let r = row_end (c.args.i + 1) c.args.groups c.args.size c.if-i-groups.true in omega arith
 
 pub bounds-cells-i : goal.bounds-cells-i
 bounds-cells-i g c = let r = row_end (c.args.i + 1) c.args.groups c.args.size c.if-i-groups.true in omega arith

@@ -5,14 +5,14 @@ use Rattle.standing.proofs.Rows.{row_end, row_ascends}
 use Rattle.standing.proofs.Turns.{part_ready, put_turn, turns_end}
 use Rattle.group_steps.proofs.put_step.Goals as goal
 
-pub offset-bounds-cells-i : goal.offset-bounds-cells-i
-offset-bounds-cells-i g c = let r = row_end c.loop-i.i c.args.groups c.args.size c.loop-i-test.true in let h : c.loop-i.i * c.args.size ≤ length c.loop-i.cells = omega arith in search rules
+pub offset_bounds-cells-i : goal.offset_bounds-cells-i
+offset_bounds-cells-i g c = let r = row_end c.loop-i.i c.args.groups c.args.size c.loop-i-test.true in let h : c.loop-i.i * c.args.size ≤ length c.loop-i.cells = omega arith in search rules
 
-pub slice-bounds-replace-last-end : goal.slice-bounds-replace-last-end
-slice-bounds-replace-last-end g c = let r = row_end c.loop-i.i c.args.groups c.args.size c.loop-i-test.true in omega arith
+pub slice_bounds-replace_last-end : goal.slice_bounds-replace_last-end
+slice_bounds-replace_last-end g c = let r = row_end c.loop-i.i c.args.groups c.args.size c.loop-i-test.true in omega arith
 
-pub replace-last-z-requires : goal.replace-last-z-requires
-replace-last-z-requires g c =
+pub replace_last-z-requires : goal.replace_last-z-requires
+replace_last-z-requires g c =
     let p = part_ready g.R.Record.order g.R.Record.last c.args.groups c.args.size c.loop-i.i c.args.cells.now c.loop-i.cells c.requires.fits c.requires.ascends c.loop-i.auto.cells c.loop-i-test.true c.loop-i.invariant.1 in
     let e = p.0 in
     record { some = omega arith; ascending = ascending_take g.R.Record.order _ _ p.1 }
@@ -24,7 +24,7 @@ loop-i-preserved g c =
     let E = c.args.cells.now in
     let whole = c.requires.fits.whole in
     let asc = row_ascends le d c.args.groups c.args.size c.loop-i.i E whole c.requires.ascends c.loop-i-test.true in
-    let t = put_turn le g.met.R.Record.linear d c.args.groups c.args.size c.loop-i.i c.requires.fits.two E whole c.loop-i-test.true asc c.loop-i.cells _ c.replace-last-z.new.cells _ (c.loop-i.auto.cells ∙ whole) c.loop-i.invariant.1 refl c.loop-i.z c.replace-last-z.result c.replace-last-z.ensures.cells (c.replace-last-z.ensures.out d) c.loop-i.invariant.0 in
+    let t = put_turn le g.met.R.Record.linear d c.args.groups c.args.size c.loop-i.i c.requires.fits.two E whole c.loop-i-test.true asc c.loop-i.cells _ c.replace_last-z.new.cells _ (c.loop-i.auto.cells ∙ whole) c.loop-i.invariant.1 refl c.loop-i.z c.replace_last-z.result c.replace_last-z.ensures.cells (c.replace_last-z.ensures.out d) c.loop-i.invariant.0 in
     (t.0, t.1, λ _. t.2)
 
 pub returns : goal.returns

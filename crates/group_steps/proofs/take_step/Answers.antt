@@ -8,14 +8,14 @@ use Rattle.group_steps.proofs.take_step.Goals as goal
 pub bounds-cells-0 : goal.bounds-cells-0
 bounds-cells-0 g c = let r = row_end 0 c.args.groups c.args.size c.requires.fits.some in omega arith
 
-pub offset-bounds-cells-i : goal.offset-bounds-cells-i
-offset-bounds-cells-i g c = let r = row_end c.loop-i.i c.args.groups c.args.size c.loop-i-test.true in let h : c.loop-i.i * c.args.size ≤ length c.loop-i.cells = omega arith in search rules
+pub offset_bounds-cells-i : goal.offset_bounds-cells-i
+offset_bounds-cells-i g c = let r = row_end c.loop-i.i c.args.groups c.args.size c.loop-i-test.true in let h : c.loop-i.i * c.args.size ≤ length c.loop-i.cells = omega arith in search rules
 
-pub slice-bounds-replace-first-end : goal.slice-bounds-replace-first-end
-slice-bounds-replace-first-end g c = let r = row_end c.loop-i.i c.args.groups c.args.size c.loop-i-test.true in omega arith
+pub slice_bounds-replace_first-end : goal.slice_bounds-replace_first-end
+slice_bounds-replace_first-end g c = let r = row_end c.loop-i.i c.args.groups c.args.size c.loop-i-test.true in omega arith
 
-pub replace-first-requires : goal.replace-first-requires
-replace-first-requires g c =
+pub replace_first-requires : goal.replace_first-requires
+replace_first-requires g c =
     let p = part_ready g.R.Record.order g.R.Record.last c.args.groups c.args.size c.loop-i.i c.args.cells.now c.loop-i.cells c.requires.fits c.requires.ascends c.loop-i.auto.cells c.loop-i-test.true c.loop-i.invariant.1 in
     let e = p.0 in
     record { some = omega arith }
@@ -27,7 +27,7 @@ loop-i-preserved g c =
     let E = c.args.cells.now in
     let whole = c.requires.fits.whole in
     let asc = row_ascends le d c.args.groups c.args.size c.loop-i.i E whole c.requires.ascends c.loop-i-test.true in
-    take_turn le g.met.R.Record.linear d c.args.groups c.args.size c.loop-i.i c.requires.fits.two E whole c.loop-i-test.true asc c.loop-i.cells _ c.replace-first.new.cells _ (c.loop-i.auto.cells ∙ whole) c.loop-i.invariant.1 refl c.next-first-next.result c.next-first-next.ensures c.replace-first.ensures.cells c.loop-i.invariant.0
+    take_turn le g.met.R.Record.linear d c.args.groups c.args.size c.loop-i.i c.requires.fits.two E whole c.loop-i-test.true asc c.loop-i.cells _ c.replace_first.new.cells _ (c.loop-i.auto.cells ∙ whole) c.loop-i.invariant.1 refl c.next_first-next.result c.next_first-next.ensures c.replace_first.ensures.cells c.loop-i.invariant.0
 
 pub returns : goal.returns
 returns g c =
