@@ -1,4 +1,4 @@
-use Rattle.std.proofs.Common.{◌≡◌, ◌-◌, ◌*◌, ◌≤◌, length, get_or, refl, ap, ◌∙◌, arith, rules}
+use Rattle.std.proofs.Common.{◌≡◌, ◌-◌, ◌*◌, ◌<◌, ◌≤◌, length, get_or, refl, ap, ◌∙◌, arith, rules}
 use Rattle.standing.specs.Steps.{flat, put_groups}
 use Rattle.standing.proofs.Lists.{ascending_take}
 use Rattle.standing.proofs.Rows.{row_end, row_ascends}
@@ -6,14 +6,14 @@ use Rattle.standing.proofs.Turns.{part_ready, put_turn, turns_end}
 use Rattle.group_steps.proofs.put_step.Goals as goal
 
 pub offset_bounds-cells-i : goal.offset_bounds-cells-i
-offset_bounds-cells-i g c = let r = row_end c.loop-i.i c.args.groups c.args.size c.loop-i-test.true in let h : c.loop-i.i * c.args.size ≤ length c.loop-i.cells = omega arith in search rules
+offset_bounds-cells-i g c = let r = row_end c.loop-i.i c.args.groups c.args.size (omega arith) in let h : c.loop-i.i * c.args.size ≤ length c.loop-i.cells = omega arith in search rules
 
 pub slice_bounds-replace_last-end : goal.slice_bounds-replace_last-end
-slice_bounds-replace_last-end g c = let r = row_end c.loop-i.i c.args.groups c.args.size c.loop-i-test.true in omega arith
+slice_bounds-replace_last-end g c = let r = row_end c.loop-i.i c.args.groups c.args.size (omega arith) in omega arith
 
 pub replace_last-z-requires : goal.replace_last-z-requires
 replace_last-z-requires g c =
-    let p = part_ready g.R.Record.order g.R.Record.last c.args.groups c.args.size c.loop-i.i c.args.cells.now c.loop-i.cells c.requires.fits c.requires.ascends c.loop-i.auto.cells c.loop-i-test.true c.loop-i.invariant.1 in
+    let p = part_ready g.R.Record.order g.R.Record.last c.args.groups c.args.size c.loop-i.i c.args.cells.now c.loop-i.cells c.requires.fits c.requires.ascends c.loop-i.auto.cells (omega arith) c.loop-i.invariant.1 in
     let e = p.0 in
     record { some = omega arith; ascending = ascending_take g.R.Record.order _ _ p.1 }
 
@@ -23,8 +23,9 @@ loop-i-preserved g c =
     let d = g.R.Record.last in
     let E = c.args.cells.now in
     let whole = c.requires.fits.whole in
-    let asc = row_ascends le d c.args.groups c.args.size c.loop-i.i E whole c.requires.ascends c.loop-i-test.true in
-    let t = put_turn le g.met.R.Record.linear d c.args.groups c.args.size c.loop-i.i c.requires.fits.two E whole c.loop-i-test.true asc c.loop-i.cells _ c.replace_last-z.new.cells _ (c.loop-i.auto.cells ∙ whole) c.loop-i.invariant.1 refl c.loop-i.z c.replace_last-z.result c.replace_last-z.ensures.cells (c.replace_last-z.ensures.out d) c.loop-i.invariant.0 in
+    let inside : c.loop-i.i < c.args.groups = omega arith in
+    let asc = row_ascends le d c.args.groups c.args.size c.loop-i.i E whole c.requires.ascends inside in
+    let t = put_turn le g.met.R.Record.linear d c.args.groups c.args.size c.loop-i.i c.requires.fits.two E whole inside asc c.loop-i.cells _ c.replace_last-z.new.cells _ (c.loop-i.auto.cells ∙ whole) c.loop-i.invariant.1 refl c.loop-i.z c.replace_last-z.result c.replace_last-z.ensures.cells (c.replace_last-z.ensures.out d) c.loop-i.invariant.0 in
     (t.0, t.1, λ _. t.2)
 
 pub returns : goal.returns
