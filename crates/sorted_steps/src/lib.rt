@@ -12,10 +12,10 @@ use records::record::Record;
 // Drops the last cell, sets x among the others, and answers what was dropped.
 pub fn set_for_last<R: Record>(cells: &mut [R], held: usize, x: R) -> R
     requires some { 0 < length cells.old }
-    requires ascending { Ascends order last cells.old }
-    requires counted { Counted order last cells.old held }
-    ensures cells { cells.new ≡ put_cells order x cells.old }
-    ensures out { result ≡ slice_index_or cells.old (length cells.old - 1) last }
+    requires ascending { Ascends R.Record.order R.Record.last cells.old }
+    requires counted { Counted R.Record.order R.Record.last cells.old held }
+    ensures cells { cells.new ≡ put_cells R.Record.order x cells.old }
+    ensures out { result ≡ slice_index_or cells.old (length cells.old - 1) R.Record.last }
 {
     let count = cells.len();
     let end = if held < count { held + 1 } else { count };
@@ -25,10 +25,10 @@ pub fn set_for_last<R: Record>(cells: &mut [R], held: usize, x: R) -> R
 // Drops the first record, sets x among the others, and answers what was dropped.
 pub fn set_for_first<R: Record>(cells: &mut [R], held: usize, x: R) -> R
     requires some { 0 < held }
-    requires ascending { Ascends order last cells.old }
-    requires counted { Counted order last cells.old held }
-    ensures cells { cells.new ≡ exchange_cells order x cells.old }
-    ensures out { result ≡ slice_index_or cells.old 0 last }
+    requires ascending { Ascends R.Record.order R.Record.last cells.old }
+    requires counted { Counted R.Record.order R.Record.last cells.old held }
+    ensures cells { cells.new ≡ exchange_cells R.Record.order x cells.old }
+    ensures out { result ≡ slice_index_or cells.old 0 R.Record.last }
 {
     replace_first(&mut cells[0..held], x)
 }

@@ -4,8 +4,8 @@ use Rattle.records.specs.Sorting.{insert}
 use Rattle.standing.proofs.Ascending as ascending
 use Rattle.sorted_steps.proofs.set_for_first.Goals as goal
 
-pub slice-bounds-replace-first-end : goal.slice-bounds-replace-first-end
-slice-bounds-replace-first-end g c =
+pub slice_bounds-replace_first-end : goal.slice_bounds-replace_first-end
+slice_bounds-replace_first-end g c =
     let w = ascending.within g.R.Record.order g.R.Record.last g.met.R.Record.linear g.met.R.Record.ends c.args.cells.now c.args.held c.requires.ascending c.requires.counted in
     omega arith
 
@@ -18,6 +18,6 @@ returns g c =
     let z : h - 0 ≡ h = omega arith in
     let p = c.requires.some in
     record {
-      cells = ap (λ v. v ++ drop (h - 0) E) c.replace-first.ensures.cells ∙ ap (λ k. insert le c.args.x (drop 1 (take k E)) ++ drop k E) z ∙ ascending.first_in le blank g.met.R.Record.linear g.met.R.Record.ends E h c.requires.ascending c.requires.counted c.args.x p;
-      out = c.replace-first.ensures.out blank ∙ ap (λ k. get_or (take k E) 0 blank) z ∙ get_or-take h E 0 blank p;
+      cells = ap (λ v. v ++ drop (h - 0) E) c.replace_first.ensures.cells ∙ ap (λ k. insert le c.args.x (drop 1 (take k E)) ++ drop k E) z ∙ ascending.first_in le blank g.met.R.Record.linear g.met.R.Record.ends E h c.requires.ascending c.requires.counted c.args.x p;
+      out = c.replace_first.ensures.out blank ∙ ap (λ k. get_or (take k E) 0 blank) z ∙ get_or-take h E 0 blank p;
     }

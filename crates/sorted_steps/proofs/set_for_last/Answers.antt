@@ -6,8 +6,8 @@ use Rattle.standing.proofs.Lists.{ascending_take}
 use Rattle.sorted_steps.proofs.set_for_last.Goals as goal
 use Rattle.sorted_steps.proofs.set_for_last.Goals.{then-held-count, else-held-count}
 
-pub replace-last-requires : goal.replace-last-requires
-replace-last-requires g c =
+pub replace_last-requires : goal.replace_last-requires
+replace_last-requires g c =
     let le = g.R.Record.order in
     let blank = g.R.Record.last in
     let E = c.args.cells.now in
@@ -33,6 +33,6 @@ returns g c =
     let z : end - 0 ≡ end = omega arith in
     let n : length (take end E) ≡ end = length-take-le end E (⊎_elim (λ p. omega arith) (λ p. omega arith) to) in
     record {
-      cells = ap (λ v. v ++ drop (end - 0) E) c.replace-last.ensures.cells ∙ ap (λ k. insert le c.args.x (take (length (take k E) - 1) (take k E)) ++ drop k E) z ∙ ap (λ k. insert le c.args.x (take (k - 1) (take end E)) ++ drop end E) n ∙ ascending.last_in le blank l ends E h c.requires.ascending c.requires.counted end to c.args.x some;
-      out = c.replace-last.ensures.out blank ∙ ap (λ k. get_or (take k E) (length (take k E) - 1) blank) z ∙ ap (λ k. get_or (take end E) (k - 1) blank) n ∙ ascending.last_out le blank l ends E h c.requires.ascending c.requires.counted end to some;
+      cells = ap (λ v. v ++ drop (end - 0) E) c.replace_last.ensures.cells ∙ ap (λ k. insert le c.args.x (take (length (take k E) - 1) (take k E)) ++ drop k E) z ∙ ap (λ k. insert le c.args.x (take (k - 1) (take end E)) ++ drop end E) n ∙ ascending.last_in le blank l ends E h c.requires.ascending c.requires.counted end to c.args.x some;
+      out = c.replace_last.ensures.out blank ∙ ap (λ k. get_or (take k E) (length (take k E) - 1) blank) z ∙ ap (λ k. get_or (take end E) (k - 1) blank) n ∙ ascending.last_out le blank l ends E h c.requires.ascending c.requires.counted end to some;
     }
