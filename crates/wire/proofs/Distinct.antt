@@ -2,7 +2,7 @@
 use Rattle.std.proofs.Common.{◌≡◌, ℕ, suc, ◌+◌, ◌-◌, ◌*◌, ◌^◌, ◌<◌, ◌≤◌, false, cond, eqb, List, [], ◌∷◌, ◌++◌, length, get_or, drop, ℤ, pos, negsuc, codes, decimal, sym, refl, ap, ◌∙◌, subst, arith, w32, SFits}
 use Rattle.std.specs.Str.Parse.{digits_value}
 use Rattle.std.specs.Fmt.{signed_decimal}
-use Rattle.std.specs.List.{AllByRecursion as All}
+use Rattle.std.specs.List.{AllByRecursion}
 use Rattle.std.proofs.lemmas.Fmt.{decimal_is_IsNumeral, decimal_nonempty}
 use Rattle.std.proofs.ByRecursion.{All-get_or, All-weaker}
 use Rattle.std.proofs.lemmas.List.{length-append}
@@ -68,7 +68,7 @@ word_plain (Figure figure) = (omega arith, tt)
 word_plain (Totals accepted departed displaced held) = (omega arith, tt)
 word_plain (Refused n layer place) = (omega arith, tt)
 
-others_good : (l : Line) → LineFits l → All Good (others l)
+others_good : (l : Line) → LineFits l → AllByRecursion Good (others l)
 others_good Heading f =
     (record { plain = (omega arith, (omega arith, (omega arith, (omega arith, tt)))); short = omega arith }, (record { plain = (omega arith, tt); short = omega arith }, tt))
 others_good (Accepted n row release) f = (number n (omega (arith, f.0)), (number row (omega (arith, f.1)), (number release f.2, tt)))
@@ -78,7 +78,7 @@ others_good (Figure figure) f = (record { plain = signed_plain figure f; short =
 others_good (Totals accepted departed displaced held) f = (number accepted (omega (arith, f.0)), (number departed (omega (arith, f.1)), (number displaced (omega (arith, f.2)), (number held (omega (arith, f.3)), tt))))
 others_good (Refused n layer place) f = (number n (omega (arith, f.0)), (record { plain = (letter_high layer, tt); short = omega arith }, (number place (omega (arith, f.1)), tt)))
 
-others_plain : (l : Line) → LineFits l → All Plain (others l)
+others_plain : (l : Line) → LineFits l → AllByRecursion Plain (others l)
 others_plain l f = All-weaker Good Plain (λ w g. g.plain) (others l) (others_good l f)
 
 word_short : (l : Line) → length (word l) + 21 * length (others l) ≤ 95

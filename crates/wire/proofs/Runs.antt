@@ -1,7 +1,7 @@
 -- Runs of the reader over whole streams.
 use Rattle.std.proofs.Common.{◌≡◌, ℕ, ◌+◌, List, [], ◌∷◌, ◌++◌, length, drop, sym, refl, ap, subst, arith}
 use Rattle.std.proofs.lemmas.List.{drop_at, get_or-drop, append_cancel_left}
-use Rattle.std.specs.List.{AllByRecursion as All}
+use Rattle.std.specs.List.{AllByRecursion}
 use Rattle.wire.specs.declared.commands.Command.{Command}
 use Rattle.wire.specs.Bytes.{Bytes}
 use Rattle.wire.specs.Encoding.{encode, Fits}
@@ -9,7 +9,7 @@ use Rattle.wire.specs.Decoding.{found}
 use Rattle.wire.specs.Streams.{Reads, end, next, stream, StreamWrites, OneReading, OneEncoding}
 use Rattle.wire.proofs.Trips.{read_again, read_back}
 
-pub stream_reads : (cs : List Command) → All Fits cs → Reads (stream cs) cs
+pub stream_reads : (cs : List Command) → AllByRecursion Fits cs → Reads (stream cs) cs
 stream_reads [] fits = end
 stream_reads (c ∷ cs) fits =
     next {f = found c (length (encode c))} (read_again c (stream cs) fits.0)

@@ -1,6 +1,6 @@
 -- A text as words, each but the first after a space, and a line feed.
 use Rattle.std.proofs.Common.{◌≡◌, ℕ, suc, ◌+◌, ◌*◌, ◌%◌, ◌^◌, ◌<◌, ◌≤◌, List, [], ◌∷◌, ◌++◌, length, ℤ, pos, negsuc, decimal, sym, refl, ap, arith, w32, SFits}
-use Rattle.std.specs.List.{flat_map, AllByRecursion as All}
+use Rattle.std.specs.List.{flat_map, AllByRecursion}
 use Rattle.std.specs.Fmt.{signed_decimal}
 use Rattle.std.proofs.lemmas.Fmt.{decimal_by_steps, length-decimal-le}
 use Rattle.std.proofs.ByRecursion.{All-push, All-weaker, All-append}
@@ -13,7 +13,7 @@ length_decimal n lt = length-decimal-le 20 n (omega arith) (omega arith) lt
 
 -- no space and no line feed is among the bytes
 abbrev pub Plain : List ℕ → Type 0
-Plain bs = All (λ b. 32 < b) bs
+Plain bs = AllByRecursion (λ b. 32 < b) bs
 
 -- what follows the first word
 abbrev pub tail : List (List ℕ) → List ℕ
@@ -45,7 +45,7 @@ word_ends (a ∷ f) (b ∷ g) xs ys p q l m e =
     (cc, r.1)
 
 -- equal texts have equal words
-pub same_words : (fs gs : List (List ℕ)) → All Plain fs → All Plain gs → tail fs ≡ tail gs → fs ≡ gs
+pub same_words : (fs gs : List (List ℕ)) → AllByRecursion Plain fs → AllByRecursion Plain gs → tail fs ≡ tail gs → fs ≡ gs
 same_words [] [] p q e = refl
 same_words [] (g ∷ gs) p q e = let z : ◌≡◌ {A = ℕ} 10 32 = cc in elim (let y : ⊥ = omega arith in y) [ ]
 same_words (f ∷ fs) [] p q e = let z : ◌≡◌ {A = ℕ} 32 10 = cc in elim (let y : ⊥ = omega arith in y) [ ]
@@ -58,9 +58,9 @@ same_words (f ∷ fs) (g ∷ gs) p q e =
     cc
 
 -- every byte of a number is a digit
-pub decimal_digits : (n : ℕ) → n < 2 ^ 64 → All (λ b. 47 < b) (decimal n)
+pub decimal_digits : (n : ℕ) → n < 2 ^ 64 → AllByRecursion (λ b. 47 < b) (decimal n)
 decimal_digits n lt =
-    decimal_by_steps (λ _ ds. All (λ b. 47 < b) ds) (λ k few. (omega arith, tt))
+    decimal_by_steps (λ _ ds. AllByRecursion (λ b. 47 < b) ds) (λ k few. (omega arith, tt))
     (λ k ds ge so. All-push (λ b. 47 < b) ds (48 + k % 10) so (omega arith)) n lt
 
 pub decimal_plain : (n : ℕ) → n < 2 ^ 64 → Plain (decimal n)
@@ -75,18 +75,18 @@ length_signed (pos n) f = length_decimal n (omega (arith, f.sfits))
 length_signed (negsuc n) f = omega (arith, length-decimal-le 10 (suc n) (omega arith) (omega (arith, f.sfits)) (omega (arith, f.sfits)))
 
 -- the words that follow the first are short
-pub tail_length : (fs : List (List ℕ)) → All (λ f. length f ≤ 20) fs → length (tail fs) ≤ 21 * length fs + 1
+pub tail_length : (fs : List (List ℕ)) → AllByRecursion (λ f. length f ≤ 20) fs → length (tail fs) ≤ 21 * length fs + 1
 tail_length [] p = omega arith
 tail_length (f ∷ fs) p =
     omega (arith, p.0, tail_length fs p.1, ap length (tail_more f fs), length-append f (tail fs))
 
-no_feed : (fs : List (List ℕ)) → All Plain fs → All (λ b. b ≡ 10 → ⊥) (flat_map spaced fs)
+no_feed : (fs : List (List ℕ)) → AllByRecursion Plain fs → AllByRecursion (λ b. b ≡ 10 → ⊥) (flat_map spaced fs)
 no_feed [] p = tt
 no_feed (f ∷ fs) p =
     (λ e. omega arith, All-append (λ b. b ≡ 10 → ⊥) f (flat_map spaced fs) (All-weaker (λ b. 32 < b) (λ b. b ≡ 10 → ⊥) (λ b h e. omega arith) f p.0) (no_feed fs p.1))
 
 -- words and a line feed have one line feed, at their end
-pub one_feed : (w : List ℕ) (fs : List (List ℕ)) → Plain w → All Plain fs → OneFeed (w ++ tail fs)
+pub one_feed : (w : List ℕ) (fs : List (List ℕ)) → Plain w → AllByRecursion Plain fs → OneFeed (w ++ tail fs)
 one_feed w fs p q = (
   w ++ flat_map spaced fs,
   sym (append_assoc w (flat_map spaced fs) (10 ∷ [])),

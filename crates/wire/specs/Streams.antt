@@ -1,6 +1,6 @@
 -- Whole streams: command after command, until no byte is left.
 use Rattle.std.specs.Prelude.{◌≡◌, ℕ, List, [], ◌∷◌, ◌++◌, drop, Some, Ok}
-use Rattle.std.specs.List.{flat_map, AllByRecursion as All}
+use Rattle.std.specs.List.{flat_map, AllByRecursion}
 use Rattle.wire.specs.declared.commands.Command.{Command}
 use Rattle.wire.specs.declared.commands.Found.{Found}
 use Rattle.wire.specs.Bytes.{Bytes}
@@ -18,7 +18,7 @@ stream cs = flat_map encode cs
 
 -- commands written one after the other read as those commands
 abbrev pub StreamReads : Type 0
-StreamReads = (cs : List Command) → All Fits cs → Reads (stream cs) cs
+StreamReads = (cs : List Command) → AllByRecursion Fits cs → Reads (stream cs) cs
 
 -- bytes that read whole are the bytes of the commands that were read
 abbrev pub StreamWrites : Type 0

@@ -1,7 +1,7 @@
 -- What the texts of lines are like.
 use Rattle.std.specs.Prelude.{◌≡◌, ℕ, ◌^◌, ◌<◌, ◌≤◌, List, [], ◌∷◌, ◌++◌, length, FitsSigned, ◌≢◌}
 use Rattle.std.specs.Int.{w32}
-use Rattle.std.specs.List.{AllByRecursion as All}
+use Rattle.std.specs.List.{AllByRecursion}
 use Rattle.wire.specs.declared.lines.Line.{Line}
 use Rattle.wire.specs.declared.lines.Line.TheVariants.{Heading, Accepted, Displaced, Departed, Figure, Totals, Refused}
 use Rattle.wire.specs.Lines.{text_of}
@@ -22,7 +22,7 @@ ShortTexts = (l : Line) → LineFits l → length (text_of l) ≤ 96
 
 -- a text that has one line feed, at its end
 abbrev pub OneFeed : List ℕ → Type 0
-OneFeed text = (body : List ℕ) × (text ≡ body ++ (10 ∷ [])) × All (λ b. b ≢ 10) body
+OneFeed text = (body : List ℕ) × (text ≡ body ++ (10 ∷ [])) × AllByRecursion (λ b. b ≢ 10) body
 
 -- each text has one line feed, at its end
 abbrev pub FedTexts : Type 0
