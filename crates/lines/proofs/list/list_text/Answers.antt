@@ -1,4 +1,4 @@
-use Rattle.std.proofs.Common.{◌≡◌, ℕ, ◌+◌, ◌-◌, ◌<◌, true, leb, List, [], ◌∷◌, ◌++◌, length, get_or, take, drop, Ok, Err, vec_items, sym, ap, ◌∙◌, arith}
+use Rattle.std.proofs.Common.{◌≡◌, ℕ, ◌+◌, ◌-◌, ◌<◌, true, leb, List, [], ◌++◌, length, get_or, take, drop, Ok, Err, vec_items, sym, ap, ◌∙◌, arith}
 use Rattle.std.specs.List.{flat_map}
 use Rattle.std.proofs.lemmas.List.{take_more, take_all, flat_map_more, take_at}
 use Rattle.std.proofs.lemmas.Bool.{cond-true}
@@ -8,7 +8,7 @@ use Rattle.buffers.specs.declared.faults.WireFault.TheVariants.{Buffer}
 use Rattle.buffers.specs.Buffers.{count_in, after}
 use Rattle.wire.specs.Lines.{text_of}
 use Rattle.lines.proofs.list.list_text.Goals as goal
-use Rattle.lines.proofs.list.list_text.Goals.{in-Ok+in-ok-extend-from-slice, in-default}
+use Rattle.lines.proofs.list.list_text.Goals.{in-Ok+in_ok-extend_from_slice, in_default}
 
 -- one line more
 more : (lines : List Line) (i : ℕ) (d : Line) (old new : List ℕ) → i < length lines → old ≡ flat_map text_of (take i lines) → new ≡ old ++ text_of (get_or lines i d) → new ≡ flat_map text_of (take (i + 1) lines)
@@ -34,13 +34,13 @@ loop-line-preserved c =
     let lines = c.args.lines.now in
     let i = c.loop-line.line-index in
     let text = text_of (get_or lines i Heading) in (
-      elim c.match-write-line.branch [
-        | in-Ok+in-ok-extend-from-slice w ↦
-            more lines i Heading (vec_items c.loop-line.text) (vec_items c.match-write-line.text) c.loop-line-test.true c.loop-line.invariant.0
-            (ap vec_items w.text-is ∙ w.in-ok-extend-from-slice.ensures.items ∙ ap (λ v. vec_items c.loop-line.text ++ v) (written c.loop-line.buffer text c.write-line.new.out w.in-Ok.count c.loop-line.invariant.1 w.in-Ok.ensures.count c.write-line.ensures.buffer))
-        | in-default w ↦ let e : Err w.in-default.field-0 ≡ Ok (length text) = w.in-default.ensures.count ∙ (fits c.loop-line.buffer text c.loop-line.invariant.1).0 in let z : ◌≡◌ {A = ℕ} 0 1 = cc in absurd (omega arith)
+      elim c.match-write_line.branch [
+        | in-Ok+in_ok-extend_from_slice w ↦
+            more lines i Heading (vec_items c.loop-line.text) (vec_items c.match-write_line.text) c.loop-line-test.true c.loop-line.invariant.0
+            (ap vec_items w.text-is ∙ w.in_ok-extend_from_slice.ensures.items ∙ ap (λ v. vec_items c.loop-line.text ++ v) (written c.loop-line.buffer text c.write_line.new.out w.in-Ok.count c.loop-line.invariant.1 w.in-Ok.ensures.count c.write_line.ensures.buffer))
+        | in_default w ↦ let e : Err w.in_default.field-0 ≡ Ok (length text) = w.in_default.ensures.count ∙ (fits c.loop-line.buffer text c.loop-line.invariant.1).0 in let z : ◌≡◌ {A = ℕ} 0 1 = cc in absurd (omega arith)
       ],
-      c.write-line.auto.out ∙ c.loop-line.invariant.1,
+      c.write_line.auto.out ∙ c.loop-line.invariant.1,
     )
 
 pub returns : goal.returns

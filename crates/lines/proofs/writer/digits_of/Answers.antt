@@ -4,8 +4,8 @@ use Rattle.wire.proofs.Wording.{length_decimal}
 use Rattle.lines.proofs.Spelling.{length_step}
 use Rattle.lines.proofs.writer.digits_of.Goals as goal
 
-pub overflow-add-count : goal.overflow-add-count
-overflow-add-count c = let e = c.loop-left.invariant.0 in omega (arith, length_decimal c.args.number (omega arith))
+pub overflow_add-count : goal.overflow_add-count
+overflow_add-count c = let e = c.loop-left.invariant.0 in omega (arith, length_decimal c.args.number (omega arith))
 
 pub loop-left-preserved : goal.loop-left-preserved
 loop-left-preserved c = let e = c.loop-left.invariant.0 in (omega (arith, length_step c.loop-left.left (omega arith) c.loop-left.invariant.1), omega arith)

@@ -1,4 +1,4 @@
-use Rattle.std.proofs.Common.{◌≡◌, [], ◌∷◌, ◌++◌, length, ap, ◌∙◌, arith, w32, to_z, of_z}
+use Rattle.std.proofs.Common.{[], ◌∷◌, ◌++◌, arith, w32, to_z, of_z}
 use Rattle.std.proofs.lemmas.List.{append-nil}
 use Rattle.std.proofs.lemmas.Int.{to_z-of_z}
 use Rattle.std.specs.Fmt.{signed_decimal}
@@ -9,12 +9,12 @@ pub returns : goal.returns
 returns c =
     let old = c.args.out.now in
     let text = signed_decimal (to_z w32 (of_z w32 c.args.figure)) in
-    let a = front_byte old 80 c.put-byte-space.result c.put-byte-space.new.out c.put-byte-space.ensures.place c.put-byte-space.ensures.buffer in
-    let b = front_more old (80 ∷ []) (32 ∷ []) c.put-byte-space.result c.put-byte-first.result c.put-byte-space.new.out c.put-byte-first.new.out a (omega arith) c.put-byte-first.ensures.place c.put-byte-first.ensures.buffer in
-    let d = front_more old (80 ∷ 32 ∷ []) text c.put-byte-first.result c.put-signed-last.result c.put-byte-first.new.out c.put-signed-last.new.out b (omega arith) c.put-signed-last.ensures.place c.put-signed-last.ensures.buffer in
-    let e = front_more old (80 ∷ 32 ∷ text) (10 ∷ []) c.put-signed-last.result c.put-byte.result c.put-signed-last.new.out c.put-byte.new.out d (omega arith) c.put-byte.ensures.place c.put-byte.ensures.buffer in
+    let a = front_byte old 80 c.put_byte-space.result c.put_byte-space.new.out c.put_byte-space.ensures.place c.put_byte-space.ensures.buffer in
+    let b = front_more old (80 ∷ []) (32 ∷ []) c.put_byte-space.result c.put_byte-first.result c.put_byte-space.new.out c.put_byte-first.new.out a (omega arith) c.put_byte-first.ensures.place c.put_byte-first.ensures.buffer in
+    let d = front_more old (80 ∷ 32 ∷ []) text c.put_byte-first.result c.put_signed-last.result c.put_byte-first.new.out c.put_signed-last.new.out b (omega arith) c.put_signed-last.ensures.place c.put_signed-last.ensures.buffer in
+    let e = front_more old (80 ∷ 32 ∷ text) (10 ∷ []) c.put_signed-last.result c.put_byte.result c.put_signed-last.new.out c.put_byte.new.out d (omega arith) c.put_byte.ensures.place c.put_byte.ensures.buffer in
     let k = to_z-of_z w32 c.args.figure c.ranges.figure in
     let n = append-nil (signed_decimal c.args.figure) in
     let ends = e.ends in
-    let all = front_all old (80 ∷ 32 ∷ (text ++ (10 ∷ []))) c.put-byte.result c.put-byte.new.out e in
+    let all = front_all old (80 ∷ 32 ∷ (text ++ (10 ∷ []))) c.put_byte.result c.put_byte.new.out e in
     record { short = omega arith; count = cc; buffer = cc }

@@ -7,9 +7,9 @@ loop-number-init c = none_written c.args.numbers.now c.args.at c.args.out.now
 
 pub loop-number-preserved : goal.loop-number-preserved
 loop-number-preserved c =
-    one_written c.args.numbers.now c.loop-number.number-index c.args.at c.loop-number.place c.put-byte-digits.result c.put-decimal-place.result
-    c.args.out.now c.loop-number.out c.put-byte-digits.new.out c.put-decimal-place.new.out (omega arith) (omega arith) (omega arith) c.loop-number.invariant
-    c.put-byte-digits.ensures.place c.put-byte-digits.ensures.buffer c.put-decimal-place.ensures.place c.put-decimal-place.ensures.buffer
+    one_written c.args.numbers.now c.loop-number.number-index c.args.at c.loop-number.place c.put_byte-digits.result c.put_decimal-place.result
+    c.args.out.now c.loop-number.out c.put_byte-digits.new.out c.put_decimal-place.new.out (omega arith) (omega arith) (omega arith) c.loop-number.invariant
+    c.put_byte-digits.ensures.place c.put_byte-digits.ensures.buffer c.put_decimal-place.ensures.place c.put_decimal-place.ensures.buffer
 
 pub returns : goal.returns
 returns c =
