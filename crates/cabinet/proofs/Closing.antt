@@ -1,6 +1,5 @@
 -- The law holds of the report that a show is closed with.
-use Rattle.std.proofs.Common.{◌≡◌, ℕ, List, sym, subst}
-use Rattle.records.specs.declared.telegram.Telegram.{Telegram}
+use Rattle.std.proofs.Common.{◌≡◌, List, sym, subst}
 use Rattle.shows.specs.Accounts.{Accounts, report_of}
 use Rattle.shows.specs.Calls.{State, Limits}
 use Rattle.shows.specs.Histories.{Setting, Entry, History}

@@ -1,5 +1,5 @@
 -- A telegram that passed its tests enters: it is stamped, and the queue takes it.
-use Rattle.std.proofs.Common.{◌≡◌, ℕ, ◌+◌, ◌<◌, ◌≤◌, Bool, true, false, ◌⊎◌, List, [], ◌∷◌, ◌++◌, set, Some, None, Ok, Err, Option, sym, refl, ap, ◌∙◌, subst, inl, inr, ⊎_elim, arith}
+use Rattle.std.proofs.Common.{◌≡◌, ℕ, ◌+◌, false, List, set, Some, None, Ok, Err, Option, sym, refl, ap, ◌∙◌, subst, ⊎_elim, arith}
 use Rattle.records.specs.Telegrams.{key, stands, blank}
 use Rattle.records.specs.declared.telegram.Telegram.{Telegram}
 use Rattle.queues.specs.Queues.{Puts, Exchanges, SameLimits, put_of}

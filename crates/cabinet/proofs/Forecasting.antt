@@ -1,9 +1,9 @@
 -- A forecast is a step that changes nothing.
-use Rattle.std.proofs.Common.{◌≡◌, ℕ, ◌<◌, List, length, get_or, set, Ok, Err, Result, sym, refl, ap, ◌∙◌}
+use Rattle.std.proofs.Common.{◌≡◌, ℕ, List, get_or, set, Ok, Err, Result, sym, ap, ◌∙◌}
 use Rattle.std.proofs.lemmas.List.{set-get_or}
 use Rattle.std.proofs.lemmas.Bool.{cond-true, eq-eqb}
 use Rattle.records.specs.declared.telegram.Telegram.{Telegram}
-use Rattle.shows.specs.Calls.{State, Forecasts, forecast_whole, times_written, row_at}
+use Rattle.shows.specs.Calls.{Forecasts, forecast_whole, times_written, row_at}
 use Rattle.shows.specs.Faults.{number}
 use Rattle.shows.specs.Histories.{forecast}
 use Rattle.shows.specs.declared.fault.ForecastFault.{ForecastFault}

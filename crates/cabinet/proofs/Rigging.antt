@@ -1,7 +1,6 @@
 -- A setting extends the settings before it, and a start begins a history.
-use Rattle.std.proofs.Common.{◌≡◌, ℕ, List, [], ◌∷◌, ◌++◌, sym, refl, ap, ◌∙◌, subst}
+use Rattle.std.proofs.Common.{◌≡◌, ℕ, List, [], ◌∷◌, ◌++◌, sym, ap, ◌∙◌, subst}
 use Rattle.records.specs.declared.telegram.Telegram.{Telegram}
-use Rattle.shows.specs.Calls.{State, Limits}
 use Rattle.shows.specs.Histories.{Setting, with_setting, with_settings, unset_rows, started, History}
 use Rattle.shows.specs.declared.row.Row.{Row}
 use Rattle.shows.proofs.Growing.{settings_push, history_started}

@@ -1,11 +1,8 @@
 -- What a call of the queue is to the show above it, and what a step of the show is to its histories.
-use Rattle.std.proofs.Common.{◌≡◌, ℕ, true, false, List, [], ◌∷◌, ◌++◌, is_ok, Ok, Err, Result, sym, refl, ap, ◌∙◌, subst}
+use Rattle.std.proofs.Common.{◌≡◌, ℕ, false, List, is_ok, Ok, Err, Result, sym, refl, ap, subst}
 use Rattle.std.proofs.lemmas.Bool.{true≢false}
-use Rattle.records.specs.Telegrams.{stands, blank}
 use Rattle.records.specs.declared.telegram.Telegram.{Telegram}
-use Rattle.queues.specs.Queues.{Puts, Takes, Exchanges, Displaces, SameLimits}
-use Rattle.queues.specs.declared.queue.Put.{Put}
-use Rattle.queues.specs.declared.queue.Put.TheVariants.{Kept, Displaced}
+use Rattle.queues.specs.Queues.{Takes, SameLimits}
 use Rattle.shows.specs.Calls.{State, Limits, Refused}
 use Rattle.shows.specs.Histories.{Entry, Step}
 use Rattle.shows.specs.Faults.{number}

@@ -52,7 +52,7 @@ impl<Q: Queue<Telegram>> RiggedShow<Q> {
     // The show runs: its clock stands at tick 0 and its counts at 0.
     pub fn start(self) -> RunningShow<Q>
         ensures shows { result ≡ begun self.rows self.queue }
-        ensures history { (settings : List Setting) → self.rows ≡ with_settings unset_rows settings → held self.queue ≡ [] → History (limits_of room slack result) settings [] (state_of held result) }
+        ensures history { (settings : List Setting) → self.rows ≡ with_settings unset_rows settings → Q.Queue.held self.queue ≡ [] → History (limits_of Q.Queue.room Q.Queue.slack result) settings [] (state_of Q.Queue.held result) }
     {
         let RiggedShow { rows, queue } = self;
         RunningShow::begin(rows, queue)

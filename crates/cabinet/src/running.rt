@@ -45,7 +45,7 @@ impl<Q: Queue<Telegram>> RunningShow<Q> {
 
     // Whether the first telegram held is not due at a tick.
     fn is_early(&self, at: u64) -> bool
-        ensures { result ≡ early at (held self.now.queue) }
+        ensures { result ≡ early at (Q.Queue.held self.now.queue) }
     {
         match self.queue.first() {
             None => false,

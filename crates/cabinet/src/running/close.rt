@@ -12,9 +12,9 @@ impl<Q: Queue<Telegram>> RunningShow<Q> {
     // Ends the show: its report, and its queue with what it still holds. Whatever the settings and
     // the calls that led here, the report and the queue account for every telegram.
     pub fn close(self) -> (Report, Q)
-        ensures report { result.0 ≡ report_of (state_of held self) }
+        ensures report { result.0 ≡ report_of (state_of Q.Queue.held self) }
         ensures queue { result.1 ≡ self.queue }
-        ensures law { (settings : List Setting) (es : List Entry) → History (limits_of room slack self) settings es (state_of held self) → Accounts (limits_of room slack self) settings es (state_of held self) result.0 }
+        ensures law { (settings : List Setting) (es : List Entry) → History (limits_of Q.Queue.room Q.Queue.slack self) settings es (state_of Q.Queue.held self) → Accounts (limits_of Q.Queue.room Q.Queue.slack self) settings es (state_of Q.Queue.held self) result.0 }
     {
         let RunningShow {
             clock: _clock,

@@ -29,14 +29,14 @@ pub(super) fn stamp(release: u64, number: u32, row: u8, length: u16, handle: u32
 impl<Q: Queue<Telegram>> RunningShow<Q> {
     // How full the queue is before the call.
     fn zone(&self) -> Zone
-        ensures { result ≡ zone_at (limits_of room slack self.now) (state_of held self.now) }
+        ensures { result ≡ zone_at (limits_of Q.Queue.room Q.Queue.slack self.now) (state_of Q.Queue.held self.now) }
     {
         zone_of(self.queue.len(), self.queue.capacity())
     }
 
     // The slot of a telegram that may enter, or the first test that refuses it.
     pub(super) fn passes(&self, at: u64, row: u8, length: u16) -> Result<Slot, ShowFault>
-        ensures { Passes (limits_of room slack self.now) (state_of held self.now) at row length result }
+        ensures { Passes (limits_of Q.Queue.room Q.Queue.slack self.now) (state_of Q.Queue.held self.now) at row length result }
     {
         slot_for(
             self.clock,

@@ -20,10 +20,10 @@ impl<Q: Queue<Telegram>> RunningShow<Q> {
         length: u16,
         handle: u32,
     ) -> Result<Exchange, ShowFault>
-        ensures step { Trades (limits_of room slack self.old) (state_of held self.old) at row length handle result (state_of held self.new) }
+        ensures step { Trades (limits_of Q.Queue.room Q.Queue.slack self.old) (state_of Q.Queue.held self.old) at row length handle result (state_of Q.Queue.held self.new) }
         ensures stays { is_ok result ≡ false → self.new ≡ self.old }
-        ensures limits { limits_of room slack self.new ≡ limits_of room slack self.old }
-        ensures history { Extends (limits_of room slack self.old) (state_of held self.old) (exchange at row length handle result) (state_of held self.new) }
+        ensures limits { limits_of Q.Queue.room Q.Queue.slack self.new ≡ limits_of Q.Queue.room Q.Queue.slack self.old }
+        ensures history { Extends (limits_of Q.Queue.room Q.Queue.slack self.old) (state_of Q.Queue.held self.old) (exchange at row length handle result) (state_of Q.Queue.held self.new) }
     {
         let slot = self.passes(at, row, length)?;
         if self.is_early(at) {

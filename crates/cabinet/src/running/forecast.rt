@@ -22,9 +22,9 @@ impl<Q: Queue<Telegram>> RunningShow<Q> {
         lengths: &[u16],
         times: &mut [u64],
     ) -> Result<usize, ForecastFault>
-        ensures step { Forecasts (state_of held self.old) at row lengths.now times.old result times.new (state_of held self.new) }
+        ensures step { Forecasts (state_of Q.Queue.held self.old) at row lengths.now times.old result times.new (state_of Q.Queue.held self.new) }
         ensures stays { self.new ≡ self.old }
-        ensures history { Extends (limits_of room slack self.old) (state_of held self.old) (forecast at row lengths.now times.old result times.new) (state_of held self.new) }
+        ensures history { Extends (limits_of Q.Queue.room Q.Queue.slack self.old) (state_of Q.Queue.held self.old) (forecast at row lengths.now times.old result times.new) (state_of Q.Queue.held self.new) }
     {
         if times.len() < lengths.len() {
             return Err(ForecastFault::Whole(ShowFault::Times));

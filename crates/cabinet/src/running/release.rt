@@ -13,10 +13,10 @@ impl<Q: Queue<Telegram>> RunningShow<Q> {
     // Lets the first telegram depart at a tick. Refuses a bad time (1), where nothing is held (8, the
     // queue's own), and where the first telegram is not due yet (9).
     pub fn release(&mut self, at: u64) -> Result<Telegram, ShowFault>
-        ensures step { Releases (limits_of room slack self.old) (state_of held self.old) at result (state_of held self.new) }
+        ensures step { Releases (limits_of Q.Queue.room Q.Queue.slack self.old) (state_of Q.Queue.held self.old) at result (state_of Q.Queue.held self.new) }
         ensures stays { is_ok result ≡ false → self.new ≡ self.old }
-        ensures limits { limits_of room slack self.new ≡ limits_of room slack self.old }
-        ensures history { Extends (limits_of room slack self.old) (state_of held self.old) (release at result) (state_of held self.new) }
+        ensures limits { limits_of Q.Queue.room Q.Queue.slack self.new ≡ limits_of Q.Queue.room Q.Queue.slack self.old }
+        ensures history { Extends (limits_of Q.Queue.room Q.Queue.slack self.old) (state_of Q.Queue.held self.old) (release at result) (state_of Q.Queue.held self.new) }
     {
         if bad_time(self.clock, at) {
             return Err(ShowFault::Time);

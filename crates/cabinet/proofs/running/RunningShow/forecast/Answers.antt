@@ -16,20 +16,20 @@ returns-then-times-lengths g c =
     let k = refused_whole m.held m.room m.slack s s refl c.args.at c.args.row c.args.lengths.now c.args.times.now c.args.times.now Times refl (sym by) in
     record { step = k.0; stays = k.1; history = k.2 }
 
-pub returns-then-bad-time : goal.returns-then-bad-time
-returns-then-bad-time g c =
+pub returns-then-bad_time : goal.returns-then-bad_time
+returns-then-bad_time g c =
     let m = g.Q.Queue in
     let s = c.args.self.now in
-    let by = goes_on _ _ _ _ (le-ltb (length c.args.times.now) (length c.args.lengths.now) (omega arith)) (stops _ _ _ (sym c.if-bad-time.ensures)) in
+    let by = goes_on _ _ _ _ (le-ltb (length c.args.times.now) (length c.args.lengths.now) (omega arith)) (stops _ _ _ (sym c.if-bad_time.ensures)) in
     let k = refused_whole m.held m.room m.slack s s refl c.args.at c.args.row c.args.lengths.now c.args.times.now c.args.times.now Time refl (sym by) in
     record { step = k.0; stays = k.1; history = k.2 }
 
-pub returns-in-default : goal.returns-in-default
-returns-in-default g c =
+pub returns-in_default : goal.returns-in_default
+returns-in_default g c =
     let m = g.Q.Queue in
     let s = c.args.self.now in
-    let unset = c.in-default.ensures in
-    let by = goes_on _ _ _ _ (le-ltb (length c.args.times.now) (length c.args.lengths.now) (omega arith)) (goes_on _ _ _ _ (sym c.if-bad-time.ensures) (stops _ _ _ (ap not unset))) in
+    let unset = c.in_default.ensures in
+    let by = goes_on _ _ _ _ (le-ltb (length c.args.times.now) (length c.args.lengths.now) (omega arith)) (goes_on _ _ _ _ (sym c.if-bad_time.ensures) (stops _ _ _ (ap not unset))) in
     let k = refused_whole m.held m.room m.slack s s refl c.args.at c.args.row c.args.lengths.now c.args.times.now c.args.times.now Row refl (sym by) in
     record { step = k.0; stays = k.1; history = k.2 }
 
@@ -42,7 +42,7 @@ returns g c =
     let found = c.in-Some.ensures in
     let here : row < length rows = omega arith in
     let same : with_rows s (set rows row c.tell.new.row) ≡ s = ap (with_rows s) (restored rows row c.index-self-row.result c.tell.new.row c.tell.ensures.row) in
-    let by = goes_on _ _ _ _ (le-ltb (length c.args.times.now) (length c.args.lengths.now) (omega arith)) (goes_on _ _ _ _ (sym c.if-bad-time.ensures) (goes_on _ _ _ _ (ap (λ r. not (is_set r)) found.0 ∙ ap not found.1) refl)) in
+    let by = goes_on _ _ _ _ (le-ltb (length c.args.times.now) (length c.args.lengths.now) (omega arith)) (goes_on _ _ _ _ (sym c.if-bad_time.ensures) (goes_on _ _ _ _ (ap (λ r. not (is_set r)) found.0 ∙ ap not found.1) refl)) in
     let tells = subst (λ r. Told r c.args.at c.args.lengths.now c.args.times.now c.tell.result c.tell.new.times) (get_or_default rows row c.index-self-row.result no_row here) c.tell.ensures.told in
     let k = told m.held m.room m.slack s (with_rows s (set rows row c.tell.new.row)) same c.args.at row c.args.lengths.now c.args.times.now c.tell.new.times by c.tell.result tells in
     record { step = k.0; stays = k.1; history = k.2 }

@@ -5,4 +5,4 @@ use Rattle.cabinet.proofs.running.RunningShow.passes.Goals as goal
 pub returns : goal.returns
 returns g c =
     let s = c.args.self.now in
-    subst (λ z. Passes z s.clock s.accepted s.rows c.args.at c.args.row c.args.length c.slot-for.result) c.zone.ensures c.slot-for.ensures
+    subst (λ z. Passes z s.clock s.accepted s.rows c.args.at c.args.row c.args.length c.slot_for.result) c.zone.ensures c.slot_for.ensures
