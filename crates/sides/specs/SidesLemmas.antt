@@ -1,17 +1,16 @@
 -- A cell beside a queue: what is done to the two is what a queue does to the collection of both.
-use Rattle.std.specs.Prelude.{◌≡◌, ℕ, ◌+◌, ◌<◌, ◌≤◌, Bool, true, false, cond, not, ◌&&◌, List, [], ◌∷◌, length, Ok, Err, MatchBool, Result, ◌≢◌, refl}
+use Rattle.std.specs.Prelude.{◌≡◌, ℕ, ◌+◌, ◌≤◌, Bool, true, false, cond, not, ◌&&◌, List, [], ◌∷◌, length, Ok, Err, Result, ◌≢◌, refl}
 use Rattle.std.proofs.Common.{sym, ap, subst, ◌∙◌, ⊎_elim, inl, inr, arith}
-use Rattle.std.proofs.lemmas.Bool.{cases_Bool, cond-true, cond-false, cond_both, both_ways, not_from_true, not_from_false}
+use Rattle.std.proofs.lemmas.Bool.{cases_Bool, cond-true, cond-false, cond_both, both_ways}
 use Rattle.std.specs.List.{AllByRecursion}
 use Rattle.records.specs.Linear.{Linear}
 use Rattle.records.specs.Sorting.{insert, Ascending, later_than, Filled, earlier, later}
 use Rattle.records.proofs.Sorting.{length_insert, all_insert, later_insert, ascending_insert, insert_insert, insert_first, insert_past, le_refl, above}
-use Rattle.queues.specs.Queues.{Lawful, SameLimits, Puts, Takes, Exchanges}
+use Rattle.queues.specs.Queues.{Lawful, SameLimits, Puts, Exchanges}
 use Rattle.sides.specs.Sides.{with_cell, leads, cell_leads, side_held, side_room, side_slack, SidePuts, SideExchanges}
 use Rattle.queues.specs.declared.queue.Put.{Put}
 use Rattle.queues.specs.declared.queue.Put.TheVariants.{Kept, Displaced}
 use Rattle.queues.specs.declared.fault.QueueFault.{QueueFault}
-use Rattle.queues.specs.declared.fault.QueueFault.TheVariants.{Empty, Blank, Shape}
 use Rattle.sides.specs.declared.SideCell.{SideCell}
 
 module _ {R : Type 0} (le : R → R → Bool) (blank : R) where

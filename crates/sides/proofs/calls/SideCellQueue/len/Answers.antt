@@ -8,7 +8,7 @@ returns-then-below-lt1000000 g c =
     let h = length_with_cell g.R.Record.order g.R.Record.last c.args.self.now.cell (g.Q.Queue.held c.args.self.now.below) in
     grind (arith, nat_tests)
 
-pub returns-else-not-is-blank : goal.returns-else-not-is-blank
-returns-else-not-is-blank g c =
+pub returns-else-not-is_blank : goal.returns-else-not-is_blank
+returns-else-not-is_blank g c =
     let h = length_with_cell g.R.Record.order g.R.Record.last c.args.self.now.cell (g.Q.Queue.held c.args.self.now.below) in
     grind (arith, nat_tests)
