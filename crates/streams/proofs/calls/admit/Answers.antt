@@ -10,8 +10,8 @@ returns-in-Ok g c =
     let a = c.args in
     let t = c.in-Ok.ensures in
     record {
-      did = λ pl readings. record { event = calls (admit a.at a.row a.length a.handle (Ok c.in-Ok.admission)); does = admit_called t.step; prints = c.list-admission.ensures.items };
-      capacity = c.list-admission.ensures.capacity;
+      did = λ pl readings. record { event = calls (admit a.at a.row a.length a.handle (Ok c.in-Ok.admission)); does = admit_called t.step; prints = c.list_admission.ensures.items };
+      capacity = c.list_admission.ensures.capacity;
       limits = t.limits;
     }
 

@@ -4,9 +4,9 @@ use Rattle.runs.proofs.Suiting.{running_unsuited}
 use Rattle.streams.proofs.Doing.{unsuited_did}
 use Rattle.streams.proofs.calls.call.Goals as goal
 
-pub returns-in-default : goal.returns-in-default
-returns-in-default g c =
-    let h = c.in-default in
+pub returns-in_default : goal.returns-in_default
+returns-in_default g c =
+    let h = c.in_default in
     let unfit = running_unsuited (state_of g.Q.Queue.held c.args.show.now) c.args.command h.not-Admit h.not-Release h.not-Exchange h.not-Reading h.not-Show c.requires.other in
     record {
       did = unsuited_did _ _ _ _ c.args.command c.args.place _ _ unfit c.refuse.ensures.items;

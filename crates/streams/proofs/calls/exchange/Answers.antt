@@ -11,8 +11,8 @@ returns-in-Ok g c =
     let t = c.in-Ok.ensures in
     let x = c.in-Ok.exchange in
     record {
-      did = λ pl readings. record { event = calls (exchange a.at a.row a.length a.handle (Ok x)); does = exchange_called t.step; prints = two_added _ _ _ _ _ _ _ c.push-reserved.ensures.items c.push-reserved-in-Ok.ensures.items c.departed.ensures c.accepted.ensures };
-      capacity = c.push-reserved-in-Ok.ensures.capacity ∙ c.push-reserved.ensures.capacity;
+      did = λ pl readings. record { event = calls (exchange a.at a.row a.length a.handle (Ok x)); does = exchange_called t.step; prints = two_added _ _ _ _ _ _ _ c.push_reserved.ensures.items c.push_reserved-in-Ok.ensures.items c.departed.ensures c.accepted.ensures };
+      capacity = c.push_reserved-in-Ok.ensures.capacity ∙ c.push_reserved.ensures.capacity;
       limits = t.limits;
     }
 

@@ -5,8 +5,8 @@ use Rattle.streams.proofs.calls.list_admission.Goals as goal
 
 pub returns-in-Some : goal.returns-in-Some
 returns-in-Some c =
-    let a = c.push-reserved.ensures in
-    let b = c.push-reserved-in-Some.ensures in
+    let a = c.push_reserved.ensures in
+    let b = c.push_reserved-in-Some.ensures in
     let old = vec_items c.args.lines.now in
     let line = accepted_line c.args.admission.telegram in
     record {

@@ -10,8 +10,8 @@ pub returns-in-Ok : goal.returns-in-Ok
 returns-in-Ok g c =
     let t = c.in-Ok.ensures in
     record {
-      did = λ pl readings. record { event = calls (release c.args.at (Ok c.in-Ok.telegram)); does = release_called t.step; prints = c.push-reserved.ensures.items ∙ ap (λ (v : Line). vec_items c.args.lines.now ++ (v ∷ [])) c.departed.ensures };
-      capacity = c.push-reserved.ensures.capacity;
+      did = λ pl readings. record { event = calls (release c.args.at (Ok c.in-Ok.telegram)); does = release_called t.step; prints = c.push_reserved.ensures.items ∙ ap (λ (v : Line). vec_items c.args.lines.now ++ (v ∷ [])) c.departed.ensures };
+      capacity = c.push_reserved.ensures.capacity;
       limits = t.limits;
     }
 

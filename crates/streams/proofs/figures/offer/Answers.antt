@@ -8,7 +8,7 @@ returns-in-Ok g c =
     let m = g.P.Queue in
     let q = c.args.panel.now.queue in
     let q' = c.offer.new.self.queue in
-    let r = Ok c.in-Ok.-left in
+    let r = Ok c.in-Ok._left in
     let t = c.in-Ok.ensures.offers in
     record {
       did = offer_did m.held m.room m.slack q q' c.args.reading r c.args.place _ _ t (sym (append-nil (vec_items c.args.lines.now)));

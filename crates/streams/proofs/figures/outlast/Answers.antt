@@ -3,9 +3,9 @@ use Rattle.runs.proofs.Suiting.{closed_unsuited}
 use Rattle.streams.proofs.Doing.{unsuited_did}
 use Rattle.streams.proofs.figures.outlast.Goals as goal
 
-pub returns-in-default : goal.returns-in-default
-returns-in-default g c =
-    let h = c.in-default in
+pub returns-in_default : goal.returns-in_default
+returns-in_default g c =
+    let h = c.in_default in
     record {
       did = λ l s. unsuited_did l _ _ _ c.args.command c.args.place _ _ (closed_unsuited s c.args.command h.not-Reading h.not-Show) c.refuse.ensures.items;
       capacity = c.refuse.ensures.capacity;

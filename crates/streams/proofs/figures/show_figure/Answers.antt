@@ -14,8 +14,8 @@ returns-in-Ok g c =
     let t = c.in-Ok.ensures.shows in
     let fits : SFits w32 n = search rules in
     record {
-      did = show_did m.held m.room m.slack q q' (Ok n) c.args.place _ _ t (c.push-reserved.ensures.items ∙ ap (λ (v : ℤ). vec_items c.args.lines.now ++ (Figure v ∷ [])) (to_z-of_z w32 n fits));
-      capacity = c.push-reserved.ensures.capacity;
+      did = show_did m.held m.room m.slack q q' (Ok n) c.args.place _ _ t (c.push_reserved.ensures.items ∙ ap (λ (v : ℤ). vec_items c.args.lines.now ++ (Figure v ∷ [])) (to_z-of_z w32 n fits));
+      capacity = c.push_reserved.ensures.capacity;
       limits = same_limits m.held m.room m.slack q q' (show_limits m.held m.room m.slack q q' (Ok n) t);
     }
 

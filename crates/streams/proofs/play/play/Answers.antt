@@ -33,13 +33,13 @@ returns-in-Next g c =
     let at = reached_under l bytes h rs c.in-Next.place (running (state_of m.held show)) now lines (sym rig.limits) (stood l pl bytes h rs c.in-Next.place _ (running (state_of m.held show)) now now lines (sym phase) refl begun) in
     let same = ap (limits_of m.room m.slack) shows ∙ ap (limits_at m.room m.slack) (rig.queue ∙ new.queue) in
     record {
-      played = played_under bytes h rs _ _ _ same rig.limits (c.play-on.ensures.played h rs at);
-      limits = c.play-on.ensures.limits ∙ same;
-      panel = c.play-on.ensures.panel ∙ rig.limits;
+      played = played_under bytes h rs _ _ _ same rig.limits (c.play_on.ensures.played h rs at);
+      limits = c.play_on.ensures.limits ∙ same;
+      panel = c.play_on.ensures.panel ∙ rig.limits;
     }
 
-pub returns-in-default : goal.returns-in-default
-returns-in-default g c =
+pub returns-in_default : goal.returns-in_default
+returns-in_default g c =
     let m = g.Q.Queue in
     let n = g.P.Queue in
     let bytes = c.args.bytes.now in
@@ -54,7 +54,7 @@ returns-in-default g c =
     let halted = rig.halted l h rs (first_reached l pl bytes h rs _ _ first c.requires.heading) in
     let queue = c.close-queue.ensures.queue ∙ ap (λ v. v.queue) c.start-started.ensures.shows in
     record {
-      played = ends_by l pl bytes h rs (rigging_of m.held last.show) (n.held last.panel.queue) (vec_items last.lines) _ (m.held c.close-queue.result.1) halted.place halted.reached (ap m.held queue) (λ v. v ≡ Start) c.rigging-ended.result c.in-default.not-Next halted.why c.finish.ensures;
+      played = ends_by l pl bytes h rs (rigging_of m.held last.show) (n.held last.panel.queue) (vec_items last.lines) _ (m.held c.close-queue.result.1) halted.place halted.reached (ap m.held queue) (λ v. v ≡ Start) c.rigging-ended.result c.in_default.not-Next halted.why c.finish.ensures;
       limits = ap (limits_at m.room m.slack) (queue ∙ rig.queue ∙ new.queue);
       panel = rig.limits;
     }

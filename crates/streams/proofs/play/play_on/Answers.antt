@@ -22,11 +22,11 @@ returns-in-Next g c =
     let s = state_of m.held last.show in
     let now = n.held last.panel.queue in
     let lines = vec_items last.lines in
-    let listed = vec_items c.push-reserved.new.self in
+    let listed = vec_items c.push_reserved.new.self in
     let over = c.closed-outlasted.ensures in
     let final = c.closed-outlasted.new in
     let line = c.totals.ensures ∙ ap totals_line c.close-queue.ensures.report in
-    let grows : listed ≡ lines ++ (totals_line (report_of s) ∷ []) = c.push-reserved.ensures.items ∙ ap (λ (v : Line). lines ++ (v ∷ [])) line in
+    let grows : listed ≡ lines ++ (totals_line (report_of s) ∷ []) = c.push_reserved.ensures.items ∙ ap (λ (v : Line). lines ++ (v ∷ [])) line in
     record {
       played = λ h rs r.
           let before = halted_at _ l pl bytes h rs (running s) now lines c.in-Next.is (run.halted h rs r) in
@@ -37,8 +37,8 @@ returns-in-Next g c =
       panel = over.limits ∙ run.panel;
     }
 
-pub returns-in-default : goal.returns-in-default
-returns-in-default g c =
+pub returns-in_default : goal.returns-in_default
+returns-in_default g c =
     let m = g.Q.Queue in
     let n = g.P.Queue in
     let bytes = c.args.bytes.now in
@@ -50,7 +50,7 @@ returns-in-default g c =
     record {
       played = λ h rs r.
           let halted = run.halted h rs r in
-          ends_by l pl bytes h rs (running s) (n.held last.panel.queue) (vec_items last.lines) _ (m.held c.close-queue.result.1) halted.place halted.reached (ap m.held c.close-queue.ensures.queue) (λ v. v ≡ Close) c.running-ended.result c.in-default.not-Next halted.why c.finish-in-default.ensures;
+          ends_by l pl bytes h rs (running s) (n.held last.panel.queue) (vec_items last.lines) _ (m.held c.close-queue.result.1) halted.place halted.reached (ap m.held c.close-queue.ensures.queue) (λ v. v ≡ Close) c.running-ended.result c.in_default.not-Next halted.why c.finish-in_default.ensures;
       limits = ap (limits_at m.room m.slack) c.close-queue.ensures.queue ∙ run.limits;
       panel = run.panel;
     }
