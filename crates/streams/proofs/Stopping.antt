@@ -7,7 +7,6 @@ use Rattle.records.specs.declared.reading.Reading.{Reading}
 use Rattle.shows.specs.Calls.{Limits}
 use Rattle.wire.specs.Decoding.{read_of}
 use Rattle.wire.specs.declared.commands.Command.{Command}
-use Rattle.wire.specs.declared.commands.Found.{Found}
 use Rattle.buffers.specs.declared.faults.WireFault.{WireFault}
 use Rattle.wire.specs.declared.lines.Line.{Line}
 use Rattle.wire.specs.declared.lines.Line.TheVariants.{Heading}
