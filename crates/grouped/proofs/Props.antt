@@ -1,5 +1,5 @@
 -- How the cells of a grouped queue stand has one proof at most, so it comes out of the fact that a type carries.
-use Rattle.std.proofs.Common.{◌≡◌, Bool, true}
+use Rattle.std.proofs.Common.{Bool, true}
 use mathlib.Core.Logic.{∥∥₁_elim}
 use base.Stored.{coded_bool, coded_ℕ}
 use denote.Struct.Props.{≡_prop}

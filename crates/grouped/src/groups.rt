@@ -22,10 +22,10 @@ pub struct Groups<R> {
 impl<R: Record> Groups<R> {
     // Blanks the cells: nothing is held.
     pub fn new(over: GroupCells<R>) -> Groups<R>
-        ensures cells { cells_of result ≡ replicate (over.groups * over.size) last }
+        ensures cells { cells_of result ≡ replicate (over.groups * over.size) R.Record.last }
         ensures groups { result.over.groups ≡ over.groups }
         ensures size { result.over.size ≡ over.size }
-        ensures settled { Settled order last result }
+        ensures settled { Settled R.Record.order R.Record.last result }
     {
         let mut over = over;
         blank_all(&mut over.cells);
@@ -35,11 +35,11 @@ impl<R: Record> Groups<R> {
     // Takes a record in. Refuses the blank (11). Where every cell holds a record, the last cell's
     // leaves.
     pub fn put(&mut self, x: R) -> Result<Put<R>, QueueFault>
-        requires settled { Settled order last self.old }
-        ensures puts { Puts order last (groups_held order last) groups_room groups_slack self.old x result self.new }
-        ensures answer { result ≡ put_answer order last x (last_cell last self.old) }
-        ensures cells { cells_of self.new ≡ (if is_ok result then after_put order last x self.old else cells_of self.old) }
-        ensures settled { Settled order last self.new }
+        requires settled { Settled R.Record.order R.Record.last self.old }
+        ensures puts { Puts R.Record.order R.Record.last (groups_held R.Record.order R.Record.last) groups_room groups_slack self.old x result self.new }
+        ensures answer { result ≡ put_answer R.Record.order R.Record.last x (last_cell R.Record.last self.old) }
+        ensures cells { cells_of self.new ≡ (if is_ok result then after_put R.Record.order R.Record.last x self.old else cells_of self.old) }
+        ensures settled { Settled R.Record.order R.Record.last self.new }
     {
         if is_blank(&x) {
             return Err(QueueFault::Blank);
@@ -54,11 +54,11 @@ impl<R: Record> Groups<R> {
 
     // Lets the first record go. Refuses where nothing is held (8).
     pub fn take(&mut self) -> Result<R, QueueFault>
-        requires settled { Settled order last self.old }
-        ensures takes { Takes (groups_held order last) groups_room groups_slack self.old result self.new }
-        ensures answer { result ≡ take_answer order last (first_cell last self.old) }
-        ensures cells { cells_of self.new ≡ (if is_ok result then after_take order last self.old else cells_of self.old) }
-        ensures settled { Settled order last self.new }
+        requires settled { Settled R.Record.order R.Record.last self.old }
+        ensures takes { Takes (groups_held R.Record.order R.Record.last) groups_room groups_slack self.old result self.new }
+        ensures answer { result ≡ take_answer R.Record.order R.Record.last (first_cell R.Record.last self.old) }
+        ensures cells { cells_of self.new ≡ (if is_ok result then after_take R.Record.order R.Record.last self.old else cells_of self.old) }
+        ensures settled { Settled R.Record.order R.Record.last self.new }
     {
         if is_blank(&self.over.cells[0]) {
             return Err(QueueFault::Empty);
@@ -70,11 +70,11 @@ impl<R: Record> Groups<R> {
     // Lets the first record go and takes another in. Refuses the blank (11), then where nothing is
     // held (8).
     pub fn exchange(&mut self, newcomer: R) -> Result<R, QueueFault>
-        requires settled { Settled order last self.old }
-        ensures exchanges { Exchanges order last (groups_held order last) groups_room groups_slack self.old newcomer result self.new }
-        ensures answer { result ≡ exchange_answer order last newcomer (first_cell last self.old) }
-        ensures cells { cells_of self.new ≡ (if is_ok result then after_exchange order last newcomer self.old else cells_of self.old) }
-        ensures settled { Settled order last self.new }
+        requires settled { Settled R.Record.order R.Record.last self.old }
+        ensures exchanges { Exchanges R.Record.order R.Record.last (groups_held R.Record.order R.Record.last) groups_room groups_slack self.old newcomer result self.new }
+        ensures answer { result ≡ exchange_answer R.Record.order R.Record.last newcomer (first_cell R.Record.last self.old) }
+        ensures cells { cells_of self.new ≡ (if is_ok result then after_exchange R.Record.order R.Record.last newcomer self.old else cells_of self.old) }
+        ensures settled { Settled R.Record.order R.Record.last self.new }
     {
         if is_blank(&newcomer) {
             return Err(QueueFault::Blank);
@@ -92,8 +92,8 @@ impl<R: Record> Groups<R> {
 
     // The first record, where there is one.
     pub fn first(&self) -> Option<R>
-        requires settled { Settled order last self.now }
-        ensures { result ≡ first_of (groups_held order last self.now) }
+        requires settled { Settled R.Record.order R.Record.last self.now }
+        ensures { result ≡ first_of (groups_held R.Record.order R.Record.last self.now) }
     {
         let first = self.over.cells[0];
         if is_blank(&first) { None } else { Some(first) }
@@ -101,16 +101,16 @@ impl<R: Record> Groups<R> {
 
     // Whether every cell holds a record.
     pub fn is_full(&self) -> bool
-        requires settled { Settled order last self.now }
-        ensures { result ≡ (length (groups_held order last self.now) == groups_room self.now) }
+        requires settled { Settled R.Record.order R.Record.last self.now }
+        ensures { result ≡ (length (groups_held R.Record.order R.Record.last self.now) == groups_room self.now) }
     {
         self.held == self.over.groups * self.over.size
     }
 
     // How many records are held.
     pub fn len(&self) -> u32
-        requires settled { Settled order last self.now }
-        ensures { result ≡ told (length (groups_held order last self.now)) }
+        requires settled { Settled R.Record.order R.Record.last self.now }
+        ensures { result ≡ told (length (groups_held R.Record.order R.Record.last self.now)) }
     {
         self.held as u32
     }

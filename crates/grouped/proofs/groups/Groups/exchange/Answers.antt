@@ -6,9 +6,9 @@ use Rattle.grouped.specs.Queues.{cells_of}
 use Rattle.grouped.proofs.Calls.{some, read, after, slice_fits, slice_ascends, held_none, exchange_first, exchange_settles}
 use Rattle.grouped.proofs.groups.Groups.exchange.Goals as goal
 
-pub returns-then-is-blank : goal.returns-then-is-blank
-returns-then-is-blank g c =
-    let t = sym c.if-is-blank.ensures in
+pub returns-then-is_blank : goal.returns-then-is_blank
+returns-then-is_blank g c =
+    let t = sym c.if-is_blank.ensures in
     record {
       exchanges = (inl (is_blank g.R.Record.order g.R.Record.last g.met.R.Record.linear g.met.R.Record.ends c.args.newcomer t, refl), refl);
       answer = rw t;
@@ -19,14 +19,14 @@ returns-then-is-blank g c =
 pub index-requires : goal.index-requires
 index-requires g c = let q = c.args.self.now in let s = some q in let w = q.over.whole in omega arith
 
-pub returns-then-is-blank-2 : goal.returns-then-is-blank-2
-returns-then-is-blank-2 g c =
+pub returns-then-is_blank-2 : goal.returns-then-is_blank-2
+returns-then-is_blank-2 g c =
     let le = g.R.Record.order in
     let d = g.R.Record.last in
     let q = c.args.self.now in
-    let f : Filled le d c.args.newcomer = sym c.if-is-blank.ensures in
+    let f : Filled le d c.args.newcomer = sym c.if-is_blank.ensures in
     let h : 0 < vec_len q.over.cells = let s = some q in let w = q.over.whole in omega arith in
-    let t : le d (get_or (cells_of q) 0 d) ≡ true = sym (c.if-is-blank-2.ensures ∙ ap (le d) (read q d 0 c.index.result.now h c.index.ensures)) in
+    let t : le d (get_or (cells_of q) 0 d) ≡ true = sym (c.if-is_blank-2.ensures ∙ ap (le d) (read q d 0 c.index.result.now h c.index.ensures)) in
     record {
       exchanges = (inr (f, held_none le g.met.R.Record.linear d g.met.R.Record.ends q c.requires.settled t, refl), refl);
       answer = rw (f, t);
@@ -34,11 +34,11 @@ returns-then-is-blank-2 g c =
       settled = c.requires.settled;
     }
 
-pub exchange-step-requires : goal.exchange-step-requires
-exchange-step-requires g c =
-    let s = c.deref-mut.result.now in
+pub exchange_step-requires : goal.exchange_step-requires
+exchange_step-requires g c =
+    let s = c.deref_mut.result.now in
     let q = c.args.self.now in
-    record { fits = slice_fits q s c.deref-mut.ensures.len; ascends = slice_ascends g.R.Record.order g.met.R.Record.linear g.R.Record.last g.met.R.Record.ends q c.requires.settled s c.deref-mut.ensures.value }
+    record { fits = slice_fits q s c.deref_mut.ensures.len; ascends = slice_ascends g.R.Record.order g.met.R.Record.linear g.R.Record.last g.met.R.Record.ends q c.requires.settled s c.deref_mut.ensures.value }
 
 pub returns : goal.returns
 returns g c =
@@ -48,14 +48,14 @@ returns g c =
     let ends = g.met.R.Record.ends in
     let q = c.args.self.now in
     let x = c.args.newcomer in
-    let f : Filled le d x = sym c.if-is-blank.ensures in
+    let f : Filled le d x = sym c.if-is_blank.ensures in
     let h : 0 < vec_len q.over.cells = let s = some q in let w = q.over.whole in omega arith in
-    let is = after q c.exchange-step.new.cells c.deref-mut.result.now (λ v. exchange_cells le d q.over.groups q.over.size x v) c.deref-mut.ensures.value c.deref-mut.ensures.len c.exchange-step.auto.cells c.exchange-step.ensures.cells in
-    let out = c.exchange-step.ensures.out ∙ ap (λ v. get_or v 0 d) c.deref-mut.ensures.value in
-    let t : Filled le d c.exchange-step.result = sym (c.if-is-blank-2.ensures ∙ ap (le d) (read q d 0 c.index.result.now h c.index.ensures ∙ sym out)) in
+    let is = after q c.exchange_step.new.cells c.deref_mut.result.now (λ v. exchange_cells le d q.over.groups q.over.size x v) c.deref_mut.ensures.value c.deref_mut.ensures.len c.exchange_step.auto.cells c.exchange_step.ensures.cells in
+    let out = c.exchange_step.ensures.out ∙ ap (λ v. get_or v 0 d) c.deref_mut.ensures.value in
+    let t : Filled le d c.exchange_step.result = sym (c.if-is_blank-2.ensures ∙ ap (le d) (read q d 0 c.index.result.now h c.index.ensures ∙ sym out)) in
     record {
-      exchanges = exchange_first le l d ends q c.requires.settled _ refl refl c.exchange-step.result out t x f is;
+      exchanges = exchange_first le l d ends q c.requires.settled _ refl refl c.exchange_step.result out t x f is;
       answer = rw (f, ← out, t);
       cells = is;
-      settled = exchange_settles le l d ends q c.requires.settled _ refl refl c.exchange-step.result out t x f is refl;
+      settled = exchange_settles le l d ends q c.requires.settled _ refl refl c.exchange_step.result out t x f is refl;
     }
