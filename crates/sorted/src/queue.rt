@@ -23,8 +23,8 @@ pub struct Sorted<R> {
 impl<R: Record> Sorted<R> {
     // Nothing is held: every cell is blank.
     pub fn new(over: SortedCells<R>) -> Sorted<R>
-        ensures cells { sorted_cells result ≡ replicate (vec_len over.cells) last }
-        ensures settled { Settled order last result }
+        ensures cells { sorted_cells result ≡ replicate (vec_len over.cells) R.Record.last }
+        ensures settled { Settled R.Record.order R.Record.last result }
     {
         let mut over = over;
         blank_all(&mut over.cells);
@@ -33,11 +33,11 @@ impl<R: Record> Sorted<R> {
 
     // Takes a record in. Refuses the blank (11). A full queue lets its last record go.
     pub fn put(&mut self, x: R) -> Result<Put<R>, QueueFault>
-        requires settled { Settled order last self.old }
-        ensures settled { Settled order last self.new }
-        ensures puts { Puts order last (sorted_held order last) sorted_room sorted_slack self.old x result self.new }
-        ensures answer { result ≡ put_answer order last x (last_cell last self.old) }
-        ensures cells { sorted_cells self.new ≡ (if is_ok result then put_cells order x (sorted_cells self.old) else sorted_cells self.old) }
+        requires settled { Settled R.Record.order R.Record.last self.old }
+        ensures settled { Settled R.Record.order R.Record.last self.new }
+        ensures puts { Puts R.Record.order R.Record.last (sorted_held R.Record.order R.Record.last) sorted_room sorted_slack self.old x result self.new }
+        ensures answer { result ≡ put_answer R.Record.order R.Record.last x (last_cell R.Record.last self.old) }
+        ensures cells { sorted_cells self.new ≡ (if is_ok result then put_cells R.Record.order x (sorted_cells self.old) else sorted_cells self.old) }
     {
         if is_blank(&x) {
             return Err(QueueFault::Blank);
@@ -52,11 +52,11 @@ impl<R: Record> Sorted<R> {
 
     // Lets the first record go. Refuses where nothing is held (8).
     pub fn take(&mut self) -> Result<R, QueueFault>
-        requires settled { Settled order last self.old }
-        ensures settled { Settled order last self.new }
-        ensures takes { Takes (sorted_held order last) sorted_room sorted_slack self.old result self.new }
-        ensures answer { result ≡ take_answer order last (first_cell last self.old) }
-        ensures cells { sorted_cells self.new ≡ (if is_ok result then take_cells last (sorted_cells self.old) else sorted_cells self.old) }
+        requires settled { Settled R.Record.order R.Record.last self.old }
+        ensures settled { Settled R.Record.order R.Record.last self.new }
+        ensures takes { Takes (sorted_held R.Record.order R.Record.last) sorted_room sorted_slack self.old result self.new }
+        ensures answer { result ≡ take_answer R.Record.order R.Record.last (first_cell R.Record.last self.old) }
+        ensures cells { sorted_cells self.new ≡ (if is_ok result then take_cells R.Record.last (sorted_cells self.old) else sorted_cells self.old) }
     {
         if self.held == 0 {
             return Err(QueueFault::Empty);
@@ -68,11 +68,11 @@ impl<R: Record> Sorted<R> {
 
     // Lets the first record go and takes another in. Refuses the blank (11), then where nothing is held (8).
     pub fn exchange(&mut self, newcomer: R) -> Result<R, QueueFault>
-        requires settled { Settled order last self.old }
-        ensures settled { Settled order last self.new }
-        ensures exchanges { Exchanges order last (sorted_held order last) sorted_room sorted_slack self.old newcomer result self.new }
-        ensures answer { result ≡ exchange_answer order last newcomer (first_cell last self.old) }
-        ensures cells { sorted_cells self.new ≡ (if is_ok result then exchange_cells order newcomer (sorted_cells self.old) else sorted_cells self.old) }
+        requires settled { Settled R.Record.order R.Record.last self.old }
+        ensures settled { Settled R.Record.order R.Record.last self.new }
+        ensures exchanges { Exchanges R.Record.order R.Record.last (sorted_held R.Record.order R.Record.last) sorted_room sorted_slack self.old newcomer result self.new }
+        ensures answer { result ≡ exchange_answer R.Record.order R.Record.last newcomer (first_cell R.Record.last self.old) }
+        ensures cells { sorted_cells self.new ≡ (if is_ok result then exchange_cells R.Record.order newcomer (sorted_cells self.old) else sorted_cells self.old) }
     {
         if is_blank(&newcomer) {
             return Err(QueueFault::Blank);
@@ -85,8 +85,8 @@ impl<R: Record> Sorted<R> {
 
     // The first record, where there is one.
     pub fn first(&self) -> Option<R>
-        requires settled { Settled order last self.now }
-        ensures { result ≡ first_of (sorted_held order last self.now) }
+        requires settled { Settled R.Record.order R.Record.last self.now }
+        ensures { result ≡ first_of (sorted_held R.Record.order R.Record.last self.now) }
     {
         if self.held == 0 {
             return None;
@@ -96,16 +96,16 @@ impl<R: Record> Sorted<R> {
 
     // Whether every cell holds a record.
     pub fn is_full(&self) -> bool
-        requires settled { Settled order last self.now }
-        ensures { result ≡ (length (sorted_held order last self.now) == sorted_room self.now) }
+        requires settled { Settled R.Record.order R.Record.last self.now }
+        ensures { result ≡ (length (sorted_held R.Record.order R.Record.last self.now) == sorted_room self.now) }
     {
         self.held == self.over.cells.len()
     }
 
     // How many records are held.
     pub fn len(&self) -> u32
-        requires settled { Settled order last self.now }
-        ensures { result ≡ told (length (sorted_held order last self.now)) }
+        requires settled { Settled R.Record.order R.Record.last self.now }
+        ensures { result ≡ told (length (sorted_held R.Record.order R.Record.last self.now)) }
     {
         self.held as u32
     }

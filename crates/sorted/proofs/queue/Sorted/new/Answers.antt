@@ -8,8 +8,8 @@ pub returns : goal.returns
 returns g c =
     let blank = g.R.Record.last in
     let v = c.args.over.cells in
-    let new = vec_items (with_items v c.blank-all.new.cells) in
-    let is : new ≡ replicate (vec_len v) blank = with_items_is v c.blank-all.new.cells (c.blank-all.auto.cells ∙ c.deref-mut.ensures.len) ∙ c.blank-all.ensures ∙ ap (λ n. replicate n blank) c.deref-mut.ensures.len in
+    let new = vec_items (with_items v c.blank_all.new.cells) in
+    let is : new ≡ replicate (vec_len v) blank = with_items_is v c.blank_all.new.cells (c.blank_all.auto.cells ∙ c.deref_mut.ensures.len) ∙ c.blank_all.ensures ∙ ap (λ n. replicate n blank) c.deref_mut.ensures.len in
     record {
       cells = is;
       settled = record { ascending = meaning.blank_ascends g.R.Record.order blank g.met.R.Record.linear g.met.R.Record.ends (vec_len v) new is; counted = meaning.blank_counted g.R.Record.order blank g.met.R.Record.linear g.met.R.Record.ends (vec_len v) new is };
