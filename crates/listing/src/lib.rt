@@ -1,7 +1,7 @@
 // The release list of a hall cabinet: its queues, the run of a stream over them, and the text (docs/LIST.md).
 #![tactic(auto)]
 
-mod cells;
+mod empty;
 mod source;
 mod text;
 

@@ -2,7 +2,7 @@
 ghost use Rattle.std.specs.Prelude.{IfOk};
 ghost use Rattle.listing.specs.Lists.{Tells};
 
-use crate::cells::{readings, telegrams};
+use crate::empty::{readings, telegrams};
 use lines::list_text;
 use std::alloc::{AllocError, Global};
 use streams::run::run;

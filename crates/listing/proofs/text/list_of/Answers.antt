@@ -30,12 +30,12 @@ told items (Err e) bytes lines shown held readings lists is text = tt
 pub returns : goal.returns
 returns c =
     let bytes = c.args.bytes.now in
-    let listed = c.in-ok-listed.listed in
+    let listed = c.in_ok-listed.listed in
     let lines = vec_items listed.lines in
     let held = side_held stands blank telegrams.held_by listed.queue in
     let left = readings.held_by listed.readings in
-    let queue = c.in-ok-queue.ensures in
-    let panel = c.in-ok-panel.ensures in
-    let lists = c.in-ok-listed.ensures.lists in
+    let queue = c.in_ok-queue.ensures in
+    let panel = c.in_ok-panel.ensures in
+    let lists = c.in_ok-listed.ensures.lists in
     let over = over_empty bytes lines held left (λ i. record { capacity = queue.room i; slack = queue.slack i }) (λ i. record { capacity = panel.room i; slack = panel.slack i }) queue.none panel.none lists in
-    told vec_items c.list-text.result bytes lines c.deref.result.now held left over c.deref.ensures.value c.list-text.ensures
+    told vec_items c.list_text.result bytes lines c.deref.result.now held left over c.deref.ensures.value c.list_text.ensures
