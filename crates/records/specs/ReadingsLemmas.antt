@@ -1,9 +1,10 @@
 -- Readings stand in a total order.
-use Rattle.std.specs.Prelude.{◌≡◌}
+use Rattle.std.specs.Prelude.{◌≡◌, true}
+use Rattle.std.proofs.Common.{rules}
 use mathlib.Core.HLevel.{is_prop→PathP}
 use denote.Struct.Props.{props}
 use Rattle.records.specs.Linear.{Linear}
-use Rattle.records.specs.Readings.{fields, key, stands}
+use Rattle.records.specs.Readings.{distance, fields, key, stands, blank}
 use Rattle.records.specs.declared.reading.Reading.{Reading, fits-type}
 use Rattle.records.specs.Orders.{nat_linear, int_linear, flip_linear, lex_linear, by_key}
 
@@ -17,3 +18,8 @@ same x y e =
 
 pub linear : Linear stands
 linear = by_key key (λ x y e. same x y (λ i. (e i).1)) (lex_linear (flip_linear nat_linear) (lex_linear nat_linear (lex_linear int_linear int_linear)))
+
+-- no reading stands after the blank
+pub ends : (x : Reading) → stands x blank ≡ true
+unfolding distance
+ends x = search rules

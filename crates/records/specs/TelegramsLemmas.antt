@@ -1,9 +1,10 @@
 -- Telegrams stand in a total order.
-use Rattle.std.specs.Prelude.{◌≡◌}
+use Rattle.std.specs.Prelude.{◌≡◌, true}
+use Rattle.std.proofs.Common.{rules}
 use mathlib.Core.HLevel.{is_prop→PathP}
 use denote.Struct.Props.{props}
 use Rattle.records.specs.Linear.{Linear}
-use Rattle.records.specs.Telegrams.{key, stands}
+use Rattle.records.specs.Telegrams.{key, stands, blank}
 use Rattle.records.specs.declared.telegram.Telegram.{Telegram, fits-type}
 use Rattle.records.specs.Orders.{nat_linear, lex_linear, by_key}
 
@@ -17,3 +18,7 @@ same x y e =
 
 pub linear : Linear stands
 linear = by_key key same (lex_linear nat_linear (lex_linear nat_linear (lex_linear nat_linear (lex_linear nat_linear nat_linear))))
+
+-- no telegram stands after the blank
+pub ends : (x : Telegram) → stands x blank ≡ true
+ends x = search rules

@@ -1,7 +1,6 @@
 ghost use Rattle.std.specs.Prelude.{◌≡◌};
 ghost use Rattle.records.specs.Readings.{distance, stands, blank};
 ghost use Rattle.records.specs.ReadingsLemmas as Readings;
-ghost use borrow.Author.Rules.{rules};
 
 use super::Reading;
 use crate::record::Record;
@@ -23,7 +22,7 @@ impl Record for Reading {
 
     ghost linear = { Readings.linear };
 
-    ghost ends = { unfold distance in λ x. Prim.search rules };
+    ghost ends = { Readings.ends };
 
     fn no_later(&self, other: &Reading) -> bool {
         let here = self.off_by();

@@ -1,6 +1,5 @@
 ghost use Rattle.records.specs.Telegrams.{stands, blank};
 ghost use Rattle.records.specs.TelegramsLemmas as Telegrams;
-ghost use Rattle.std.proofs.Common.{rules, arith};
 
 use super::Telegram;
 use crate::record::Record;
@@ -13,7 +12,7 @@ impl Record for Telegram {
 
     ghost linear = { Telegrams.linear };
 
-    ghost ends = { first_of (Prim.search rules, Prim.grind (arith, Self.row.coded.inj)) };
+    ghost ends = { Telegrams.ends };
 
     fn no_later(&self, other: &Telegram) -> bool {
         if self.release != other.release {
