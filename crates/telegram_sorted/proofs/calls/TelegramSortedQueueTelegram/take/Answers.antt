@@ -1,12 +1,6 @@
-use Rattle.records.specs.Telegrams.{stands, blank}
-use Rattle.queues.proofs.Over.{takes_in}
-use Rattle.sorted.specs.Lines.{sorted_held, sorted_room, sorted_slack}
-use Rattle.telegram_sorted.proofs.Same.{same_sorted}
+use Rattle.std.proofs.Common.{rules}
+use Rattle.telegram_sorted.proofs.Same.{takes_here}
 use Rattle.telegram_sorted.proofs.calls.TelegramSortedQueueTelegram.take.Goals as goal
 
 pub returns : goal.returns
-returns c = record {
-  takes = takes_in (sorted_held stands blank) sorted_room sorted_slack (λ q. q.queue) same_sorted c.args.self.now _ c.take.result c.take.ensures.takes;
-  answer = c.take.ensures.answer;
-  cells = c.take.ensures.cells;
-}
+returns c = record { takes = search (rules, takes_here); answer = search rules; cells = search rules }
