@@ -1,5 +1,5 @@
--- One command was done, and its lines are added to the list.
-use Rattle.std.proofs.Common.{◌≡◌, ℕ, ◌+◌, ◌≤◌, false, List, [], ◌∷◌, ◌++◌, length, drop, ℤ, Some, Ok, Option, Result, sym, refl, ap, ◌∙◌, subst, append_assoc, append-nil, arith, length-append}
+-- One command was done, and its lines are printed.
+use Rattle.std.proofs.Common.{◌≡◌, ℕ, false, List, ℤ, Option, Result, sym, refl, ap, ◌∙◌, subst}
 use Rattle.records.specs.declared.reading.Reading.{Reading}
 use Rattle.records.specs.declared.telegram.Telegram.{Telegram}
 use Rattle.queues.specs.Queues.{SameLimits}
@@ -11,60 +11,50 @@ use Rattle.shows.specs.declared.fault.ShowFault.{ShowFault}
 use Rattle.panels.specs.Panels.{Offers, Shows}
 use Rattle.panels.specs.declared.panel.fault.PanelFault.{PanelFault}
 use Rattle.cabinet.specs.declared.rigged.RiggedShow.{RiggedShow}
-use Rattle.wire.specs.Decoding.{read_of}
 use Rattle.wire.specs.declared.commands.Command.{Command}
 use Rattle.wire.specs.declared.commands.Command.TheVariants as commands
-use Rattle.wire.specs.declared.commands.Found.{Found}
-use Rattle.wire.specs.declared.lines.Line.{Line}
 use Rattle.runs.specs.Events.{sets, refuses, lines_of, refused_line}
 use Rattle.runs.specs.Runs.{Phase, rigging, set_refusal, row_set, setting_refused, suits, wrong_stage, offered, shown, reading_offered, figure_asked}
 use Rattle.runs.specs.declared.fault.StreamFault.{StreamFault}
 use Rattle.runs.specs.declared.fault.StreamFault.TheVariants.{Stage, Show}
-use Rattle.runs.proofs.Fitting.{does_fit}
 use Rattle.runs.proofs.Panels.{offers_over, shows_over}
+use Rattle.streams.specs.Printing.{lines_in}
 use Rattle.streams.specs.Stages.{limits_at, rigging_of, Did}
+use Rattle.streams.specs.declared.printed.Printed.{Printed}
+use Rattle.streams.specs.declared.printed.Printed.TheVariants.{Nothing}
 
 -- the line of a fault that was turned into another layer's
-pub refused_as : (xs ys : List Line) (place : ℕ) (f e : StreamFault) → f ≡ e → ys ≡ xs ++ refused_line place f → ys ≡ xs ++ refused_line place e
-refused_as xs ys place f e is added = added ∙ ap (λ v. xs ++ refused_line place v) is
-
--- two lines that are added one after the other
-pub two_added : (xs ys zs : List Line) (x y x' y' : Line) → ys ≡ xs ++ (x ∷ []) → zs ≡ ys ++ (y ∷ []) → x ≡ x' → y ≡ y' → zs ≡ xs ++ (x' ∷ y' ∷ [])
-two_added xs ys zs x y x' y' first second p q = second ∙ ap (λ v. v ++ (y ∷ [])) first ∙ append_assoc xs (x ∷ []) (y ∷ []) ∙ (λ i. xs ++ (p i ∷ q i ∷ []))
-
--- its lines are no more than its bytes
-pub lines_within : {l pl : Limits} {phase phase' : Phase} {now now' : List Reading} {lines lines' : List Line} (bytes : List ℕ) (place : ℕ) (f : Found)
-    → Did l pl phase now f.command place lines phase' now' lines' → read_of (drop place bytes) ≡ Ok (Some f) → length lines' ≤ length lines + f.taken
-lines_within {lines = lines} bytes place f did read = omega (arith, ap length did.prints, length-append lines (lines_of (place, did.event)), does_fit bytes place f did.does read)
+pub refused_as : (printed : Printed) (place : ℕ) (f e : StreamFault) → f ≡ e → lines_in printed ≡ refused_line place f → lines_in printed ≡ refused_line place e
+refused_as printed place f e is prints = prints ∙ ap (refused_line place) is
 
 -- it does not suit the stage
-pub unsuited_did : (l pl : Limits) (phase : Phase) (readings : List Reading) (command : Command) (place : ℕ) (lines lines' : List Line)
-    → suits phase command ≡ false → lines' ≡ lines ++ lines_of (place, refuses Stage) → Did l pl phase readings command place lines phase readings lines'
-unsuited_did l pl phase readings command place lines lines' unfit prints = record { event = refuses Stage; does = wrong_stage unfit; prints = prints }
+pub unsuited_did : (l pl : Limits) (phase : Phase) (readings : List Reading) (command : Command) (place : ℕ) (printed : Printed)
+    → suits phase command ≡ false → lines_in printed ≡ lines_of (place, refuses Stage) → Did l pl phase readings command place printed phase readings
+unsuited_did l pl phase readings command place printed unfit prints = record { event = refuses Stage; does = wrong_stage unfit; prints = prints }
 
 -- a row is set, or the setting is refused
-module _ (row pace burst : ℕ) {Q : Type 0} (held : Q → List Telegram) (s : RiggedShow Q) (place : ℕ) (lines : List Line) where
+module _ (row pace burst : ℕ) {Q : Type 0} (held : Q → List Telegram) (s : RiggedShow Q) (place : ℕ) where
   pub set_did : (s' : RiggedShow Q) (card : RowCard) → set_refusal row pace burst ≡ 0 → card.pace ≡ pace → card.burst ≡ burst
       → s'.rows ≡ with_setting s.rows (record { row = row; card = card }) → s'.queue ≡ s.queue
-      → (l pl : Limits) (readings : List Reading) → Did l pl (rigging_of held s) readings (commands.SetRow row pace burst) place lines (rigging_of held s') readings lines
+      → (l pl : Limits) (readings : List Reading) → Did l pl (rigging_of held s) readings (commands.SetRow row pace burst) place Nothing (rigging_of held s') readings
   set_did s' card none p b rows queue l pl readings =
-      let P : Phase → Type 0 = λ phase. Did l pl (rigging_of held s) readings (commands.SetRow row pace burst) place lines phase readings lines in
+      let P : Phase → Type 0 = λ phase. Did l pl (rigging_of held s) readings (commands.SetRow row pace burst) place Nothing phase readings in
       let is : rigging_of held s' ≡ rigging (with_setting s.rows (record { row = row; card = card })) (held s.queue) = λ i. rigging (rows i) (held (queue i)) in
-      subst P (sym is) (record { event = sets (record { row = row; card = card }); does = row_set none p b; prints = sym (append-nil lines) })
+      subst P (sym is) (record { event = sets (record { row = row; card = card }); does = row_set none p b; prints = refl })
 
-  pub set_refused : (e : ShowFault) (lines' : List Line) → number e ≡ set_refusal row pace burst → lines' ≡ lines ++ lines_of (place, refuses (Show e))
-      → (l pl : Limits) (readings : List Reading) → Did l pl (rigging_of held s) readings (commands.SetRow row pace burst) place lines (rigging_of held s) readings lines'
-  set_refused e lines' by prints l pl readings = record { event = refuses (Show e); does = setting_refused by; prints = prints }
+  pub set_refused : (e : ShowFault) (printed : Printed) → number e ≡ set_refusal row pace burst → lines_in printed ≡ lines_of (place, refuses (Show e))
+      → (l pl : Limits) (readings : List Reading) → Did l pl (rigging_of held s) readings (commands.SetRow row pace burst) place printed (rigging_of held s) readings
+  set_refused e printed by prints l pl readings = record { event = refuses (Show e); does = setting_refused by; prints = prints }
 
 -- a reading is offered, or a figure asked for
 module _ {Q : Type 0} (held : Q → List Reading) (room slack : Q → ℕ) (q q' : Q) where
   pub same_limits : SameLimits held room slack q q' → limits_at room slack q' ≡ limits_at room slack q
   same_limits s = λ i. record { capacity = s.room_stays i; slack = s.slack_stays i }
 
-  pub offer_did : (x : Reading) (r : Result (Option Reading) PanelFault) (place : ℕ) (lines lines' : List Line) → Offers held room slack q x r q' → lines' ≡ lines ++ lines_of (place, offered r)
-      → (l : Limits) (phase : Phase) → Did l (limits_at room slack q) phase (held q) (commands.Reading x.row x.position x.target) place lines phase (held q') lines'
-  offer_did x r place lines lines' t prints l phase = record { event = offered r; does = reading_offered x r refl refl refl (offers_over held room slack q q' x r t); prints = prints }
+  pub offer_did : (x : Reading) (r : Result (Option Reading) PanelFault) (place : ℕ) (printed : Printed) → Offers held room slack q x r q' → lines_in printed ≡ lines_of (place, offered r)
+      → (l : Limits) (phase : Phase) → Did l (limits_at room slack q) phase (held q) (commands.Reading x.row x.position x.target) place printed phase (held q')
+  offer_did x r place printed t prints l phase = record { event = offered r; does = reading_offered x r refl refl refl (offers_over held room slack q q' x r t); prints = prints }
 
-  pub show_did : (r : Result ℤ PanelFault) (place : ℕ) (lines lines' : List Line) → Shows held room slack q r q' → lines' ≡ lines ++ lines_of (place, shown r)
-      → (l : Limits) (phase : Phase) → Did l (limits_at room slack q) phase (held q) commands.Show place lines phase (held q') lines'
-  show_did r place lines lines' t prints l phase = record { event = shown r; does = figure_asked r (shows_over held room slack q q' r t); prints = prints }
+  pub show_did : (r : Result ℤ PanelFault) (place : ℕ) (printed : Printed) → Shows held room slack q r q' → lines_in printed ≡ lines_of (place, shown r)
+      → (l : Limits) (phase : Phase) → Did l (limits_at room slack q) phase (held q) commands.Show place printed phase (held q')
+  show_did r place printed t prints l phase = record { event = shown r; does = figure_asked r (shows_over held room slack q q' r t); prints = prints }

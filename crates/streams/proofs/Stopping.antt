@@ -24,10 +24,10 @@ use Rattle.streams.specs.declared.ended.Ended.TheVariants.{Next, Through, Faulte
 pub stops_there : (ending : Command → Type 0) (bytes : List ℕ) (place : ℕ) (e : WireFault) (ended : Ended) → ended ≡ fault_at e place → read_of (drop place bytes) ≡ Err e → Halts ending bytes place ended
 stops_there ending bytes place e ended is read = subst (Halts ending bytes place) (sym is) (e, read, refl)
 
-pub room_here : (len cap size : ℕ) (e : WireFault) (place : ℕ) (ended : Ended) → ended ≡ fault_at e place → len + 1 ≤ cap → LeavesRoom len cap size ended
+pub room_here : (len cap size : ℕ) (e : WireFault) (place : ℕ) (ended : Ended) → ended ≡ fault_at e place → len + 2 ≤ cap → LeavesRoom len cap size ended
 room_here len cap size e place ended is h = subst (LeavesRoom len cap size) (sym is) h
 
-pub room_there : (len cap : ℕ) (e : WireFault) (place : ℕ) (ended : Ended) → ended ≡ fault_at e place → len + 1 ≤ cap → RoomToReport len cap ended
+pub room_there : (len cap : ℕ) (e : WireFault) (place : ℕ) (ended : Ended) → ended ≡ fault_at e place → len + 2 ≤ cap → RoomToReport len cap ended
 room_there len cap e place ended is h = subst (RoomToReport len cap) (sym is) h
 
 module _ (l pl : Limits) (bytes : List ℕ) (held : List Telegram) (readings : List Reading) (phase : Phase) (now : List Reading) (lines : List Line) where

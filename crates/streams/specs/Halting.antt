@@ -1,5 +1,5 @@
 -- How the commands of a stage end.
-use Rattle.std.specs.Prelude.{◌≡◌, ℕ, ◌+◌, ◌≤◌, List, [], drop, Some, None, Ok, Err}
+use Rattle.std.specs.Prelude.{◌≡◌, ℕ, ◌+◌, ◌*◌, ◌≤◌, List, [], drop, Some, None, Ok, Err}
 use Rattle.records.specs.declared.telegram.Telegram.{Telegram}
 use Rattle.records.specs.declared.reading.Reading.{Reading}
 use Rattle.shows.specs.Calls.{Limits}
@@ -31,21 +31,21 @@ pub record Halted (ending : Command → Type 0) (l pl : Limits) (bytes : List �
   pub reached : Reached l pl bytes held readings place phase readings' lines
   pub why : Halts ending bytes place ended
 
--- room for a line for each byte from a place on, and for one to spare
+-- room for two lines for each byte from a place on, and two more
 abbrev pub Roomy : (len cap size place : ℕ) → Type 0
-Roomy len cap size place = (place ≤ size) × (len + 1 + size ≤ cap + place)
+Roomy len cap size place = (place ≤ size) × (len + 2 * size + 2 ≤ cap + 2 * place)
 
--- room left for a line of the command that ends the stage and for the rest of the run, or for a last line
+-- room left for two lines of the command that ends the stage and for the rest of the run, or for a last line
 abbrev pub LeavesRoom : (len cap size : ℕ) → Ended → Type 0
-LeavesRoom len cap size (Next next) = Roomy (len + 1) cap size next
+LeavesRoom len cap size (Next next) = Roomy (len + 2) cap size next
 LeavesRoom len cap size Through = Unit {0}
-LeavesRoom len cap size (Faulted x) = len + 1 ≤ cap
+LeavesRoom len cap size (Faulted x) = len + 2 ≤ cap
 
 -- room left for a last line
 abbrev pub RoomToReport : (len cap : ℕ) → Ended → Type 0
 RoomToReport len cap (Next next) = Unit {0}
 RoomToReport len cap Through = Unit {0}
-RoomToReport len cap (Faulted x) = len + 1 ≤ cap
+RoomToReport len cap (Faulted x) = len + 2 ≤ cap
 
 -- the line of bytes that are no command
 abbrev pub last_lines : Ended → List Line

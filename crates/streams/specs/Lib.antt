@@ -1,3 +1,4 @@
+pub mod Printing
 pub mod Stages
 pub mod Halting
 pub mod Places

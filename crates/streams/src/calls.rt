@@ -1,5 +1,5 @@
 // The commands of a show that runs.
-ghost use Rattle.std.specs.Prelude.{◌≡◌, ◌+◌, ◌<◌, ◌≤◌, List, ◌∷◌, ◌++◌, vec_len, vec_capacity, ◌≢◌};
+ghost use Rattle.std.specs.Prelude.{◌≡◌, List, ◌∷◌};
 ghost use Rattle.records.specs.declared.reading.Reading.{Reading as AReading};
 ghost use Rattle.shows.specs.Calls.{Limits};
 ghost use Rattle.cabinet.specs.States.{state_of, limits_of};
@@ -7,10 +7,11 @@ ghost use Rattle.wire.specs.declared.commands.Command.TheVariants as commands;
 ghost use Rattle.wire.specs.declared.lines.Line.TheVariants.{Departed};
 ghost use Rattle.runs.specs.Events.{accepted_line, displaced_line};
 ghost use Rattle.runs.specs.Runs.{running};
-ghost use Rattle.streams.specs.Stages.{limits_at, Did};
+ghost use Rattle.streams.specs.Printing.{lines_in};
+ghost use Rattle.streams.specs.Stages.{limits_at, Did, Handles};
 
 use crate::figures::{offer, show_figure};
-use crate::refusal::refuse;
+use crate::printed::{Printed, refusal};
 use cabinet::running::RunningShow;
 use panels::panel::Panel;
 use queues::queue::Queue;
@@ -43,94 +44,78 @@ fn departed(telegram: Telegram, at: u64) -> Line
     }
 }
 
-// Adds the lines of an accepted admit: its telegram, then the one that it displaced.
-fn list_admission(lines: &mut Vec<Line>, admission: Admission)
-    requires room { vec_len lines.old + 2 ≤ vec_capacity lines.old }
-    ensures items { lines.new.items ≡ lines.old.items ++ (accepted_line admission.telegram ∷ displaced_line admission.displaced) }
-    ensures capacity { vec_capacity lines.new ≡ vec_capacity lines.old }
+// The lines of an accepted admit: its telegram, then the one that it displaced.
+fn admission_lines(admission: Admission) -> Printed
+    ensures { lines_in result ≡ accepted_line admission.telegram ∷ displaced_line admission.displaced }
 {
-    lines.push_reserved(accepted(admission.telegram));
+    let line = accepted(admission.telegram);
     match admission.displaced {
-        None => {}
-        Some(other) => lines.push_reserved(Line::Displaced {
-            number: other.number,
-            row: other.row,
-        }),
+        None => Printed::One(line),
+        Some(other) => Printed::Two(
+            line,
+            Line::Displaced {
+                number: other.number,
+                row: other.row,
+            },
+        ),
     }
 }
 
 fn admit<Q: Queue<Telegram>>(
-    lines: &mut Vec<Line>,
     show: &mut RunningShow<Q>,
     at: u64,
     row: u8,
     length: u16,
     handle: u32,
     place: u32,
-)
-    requires room { vec_len lines.old + 2 ≤ vec_capacity lines.old }
-    ensures did { (pl : Limits) (readings : List AReading) → Did (limits_of Q.Queue.room Q.Queue.slack show.old) pl (running (state_of Q.Queue.held show.old)) readings (commands.Admit at row length handle) place lines.old.items (running (state_of Q.Queue.held show.new)) readings lines.new.items }
-    ensures capacity { vec_capacity lines.new ≡ vec_capacity lines.old }
+) -> Printed
+    ensures did { (pl : Limits) (readings : List AReading) → Did (limits_of Q.Queue.room Q.Queue.slack show.old) pl (running (state_of Q.Queue.held show.old)) readings (commands.Admit at row length handle) place result (running (state_of Q.Queue.held show.new)) readings }
     ensures limits { limits_of Q.Queue.room Q.Queue.slack show.new ≡ limits_of Q.Queue.room Q.Queue.slack show.old }
 {
     match show.admit(at, row, length, handle) {
-        Ok(admission) => list_admission(lines, admission),
-        Err(fault) => refuse(lines, StreamFault::from(fault), place),
+        Ok(admission) => admission_lines(admission),
+        Err(fault) => refusal(StreamFault::from(fault), place),
     }
 }
 
-fn release<Q: Queue<Telegram>>(
-    lines: &mut Vec<Line>,
-    show: &mut RunningShow<Q>,
-    at: u64,
-    place: u32,
-)
-    requires room { vec_len lines.old < vec_capacity lines.old }
-    ensures did { (pl : Limits) (readings : List AReading) → Did (limits_of Q.Queue.room Q.Queue.slack show.old) pl (running (state_of Q.Queue.held show.old)) readings (commands.Release at) place lines.old.items (running (state_of Q.Queue.held show.new)) readings lines.new.items }
-    ensures capacity { vec_capacity lines.new ≡ vec_capacity lines.old }
+fn release<Q: Queue<Telegram>>(show: &mut RunningShow<Q>, at: u64, place: u32) -> Printed
+    ensures did { (pl : Limits) (readings : List AReading) → Did (limits_of Q.Queue.room Q.Queue.slack show.old) pl (running (state_of Q.Queue.held show.old)) readings (commands.Release at) place result (running (state_of Q.Queue.held show.new)) readings }
     ensures limits { limits_of Q.Queue.room Q.Queue.slack show.new ≡ limits_of Q.Queue.room Q.Queue.slack show.old }
 {
     match show.release(at) {
-        Ok(telegram) => lines.push_reserved(departed(telegram, at)),
-        Err(fault) => refuse(lines, StreamFault::from(fault), place),
+        Ok(telegram) => Printed::One(departed(telegram, at)),
+        Err(fault) => refusal(StreamFault::from(fault), place),
     }
 }
 
 fn exchange<Q: Queue<Telegram>>(
-    lines: &mut Vec<Line>,
     show: &mut RunningShow<Q>,
     at: u64,
     row: u8,
     length: u16,
     handle: u32,
     place: u32,
-)
-    requires room { vec_len lines.old + 2 ≤ vec_capacity lines.old }
-    ensures did { (pl : Limits) (readings : List AReading) → Did (limits_of Q.Queue.room Q.Queue.slack show.old) pl (running (state_of Q.Queue.held show.old)) readings (commands.Exchange at row length handle) place lines.old.items (running (state_of Q.Queue.held show.new)) readings lines.new.items }
-    ensures capacity { vec_capacity lines.new ≡ vec_capacity lines.old }
+) -> Printed
+    ensures did { (pl : Limits) (readings : List AReading) → Did (limits_of Q.Queue.room Q.Queue.slack show.old) pl (running (state_of Q.Queue.held show.old)) readings (commands.Exchange at row length handle) place result (running (state_of Q.Queue.held show.new)) readings }
     ensures limits { limits_of Q.Queue.room Q.Queue.slack show.new ≡ limits_of Q.Queue.room Q.Queue.slack show.old }
 {
     match show.exchange(at, row, length, handle) {
         Ok(exchange) => {
-            lines.push_reserved(departed(exchange.departed, at));
-            lines.push_reserved(accepted(exchange.telegram));
+            let departed = departed(exchange.departed, at);
+            Printed::Two(departed, accepted(exchange.telegram))
         }
-        Err(fault) => refuse(lines, StreamFault::from(fault), place),
+        Err(fault) => refusal(StreamFault::from(fault), place),
     }
 }
 
-// One command to a running show, which it does not close.
+// One command to a running show; none where it is the close.
 pub(crate) fn call<Q: Queue<Telegram>, P: Queue<Reading>>(
-    lines: &mut Vec<Line>,
     show: &mut RunningShow<Q>,
     panel: &mut Panel<P>,
     command: Command,
     place: u32,
-)
-    requires room { vec_len lines.old + 2 ≤ vec_capacity lines.old }
-    requires other { command ≢ commands.Close }
-    ensures did { Did (limits_of Q.Queue.room Q.Queue.slack show.old) (limits_at P.Queue.room P.Queue.slack panel.old.queue) (running (state_of Q.Queue.held show.old)) (P.Queue.held panel.old.queue) command place lines.old.items (running (state_of Q.Queue.held show.new)) (P.Queue.held panel.new.queue) lines.new.items }
-    ensures capacity { vec_capacity lines.new ≡ vec_capacity lines.old }
+) -> Option<Printed>
+    ensures handles { Handles commands.Close (limits_of Q.Queue.room Q.Queue.slack show.old) (limits_at P.Queue.room P.Queue.slack panel.old.queue) (running (state_of Q.Queue.held show.old)) (P.Queue.held panel.old.queue) command place result (running (state_of Q.Queue.held show.new)) (P.Queue.held panel.new.queue) }
     ensures limits { limits_of Q.Queue.room Q.Queue.slack show.new ≡ limits_of Q.Queue.room Q.Queue.slack show.old }
     ensures panel { limits_at P.Queue.room P.Queue.slack panel.new.queue ≡ limits_at P.Queue.room P.Queue.slack panel.old.queue }
 {
@@ -140,14 +125,15 @@ pub(crate) fn call<Q: Queue<Telegram>, P: Queue<Reading>>(
             row,
             length,
             handle,
-        } => admit(lines, show, at, row, length, handle, place),
-        Command::Release { at } => release(lines, show, at, place),
+        } => Some(admit(show, at, row, length, handle, place)),
+        Command::Release { at } => Some(release(show, at, place)),
         Command::Exchange {
             at,
             row,
             length,
             handle,
-        } => exchange(lines, show, at, row, length, handle, place),
+        } => Some(exchange(show, at, row, length, handle, place)),
+        Command::Close => None,
         Command::Reading {
             row,
             position,
@@ -158,9 +144,9 @@ pub(crate) fn call<Q: Queue<Telegram>, P: Queue<Reading>>(
                 position,
                 target,
             };
-            offer(lines, panel, reading, place)
+            Some(offer(panel, reading, place))
         }
-        Command::Show => show_figure(lines, panel, place),
-        _ => refuse(lines, StreamFault::Stage, place),
+        Command::Show => Some(show_figure(panel, place)),
+        _ => Some(refusal(StreamFault::Stage, place)),
     }
 }

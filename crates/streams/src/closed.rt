@@ -10,6 +10,7 @@ ghost use Rattle.streams.specs.Halting.{Halted, Roomy, RoomToReport};
 
 use crate::ended::{Ended, stopped};
 use crate::figures::outlast;
+use crate::printed::print;
 use crate::reading::{At, read_at};
 use panels::panel::Panel;
 use queues::queue::Queue;
@@ -35,7 +36,8 @@ pub(crate) fn closed<P: Queue<Reading>>(
             At::End => break 'closed Ended::Through,
             At::Fault(fault) => break 'closed stopped(fault, place),
         };
-        outlast(lines, panel, found.command, place as u32);
+        let printed = outlast(panel, found.command, place as u32);
+        print(lines, printed);
         place += found.taken;
     };
     ended

@@ -1,5 +1,5 @@
 // The commands of a stream until the show starts.
-ghost use Rattle.std.specs.Prelude.{◌≡◌, ◌≤◌, true, false, List, length, vec_len, vec_capacity, ◌≢◌};
+ghost use Rattle.std.specs.Prelude.{◌≡◌, ◌≤◌, List, length, vec_len, vec_capacity};
 ghost use Rattle.records.specs.declared.reading.Reading.{Reading as AReading};
 ghost use Rattle.records.specs.declared.telegram.Telegram.{Telegram as ATelegram};
 ghost use Rattle.shows.specs.Calls.{Limits};
@@ -9,6 +9,7 @@ ghost use Rattle.streams.specs.Stages.{limits_at, rigging_of};
 ghost use Rattle.streams.specs.Halting.{Halted, Roomy, LeavesRoom};
 
 use crate::ended::{Ended, stopped};
+use crate::printed::print;
 use crate::reading::{At, read_at};
 use crate::settings::rig;
 use cabinet::rigged::RiggedShow;
@@ -16,19 +17,7 @@ use panels::panel::Panel;
 use queues::queue::Queue;
 use records::reading::Reading;
 use records::telegram::Telegram;
-use wire::commands::Command;
 use wire::lines::Line;
-
-// Whether a command starts the show.
-fn starts(command: Command) -> bool
-    ensures ends { result ≡ true → command ≡ commands.Start }
-    ensures stays { result ≡ false → command ≢ commands.Start }
-{
-    match command {
-        Command::Start => true,
-        _ => false,
-    }
-}
 
 pub(crate) fn rigging<Q: Queue<Telegram>, P: Queue<Reading>>(
     bytes: &[u8],
@@ -50,12 +39,12 @@ pub(crate) fn rigging<Q: Queue<Telegram>, P: Queue<Reading>>(
             At::End => break 'rigging Ended::Through,
             At::Fault(fault) => break 'rigging stopped(fault, place),
         };
-        if starts(found.command) {
+        let Some(printed) = rig(show, panel, found.command, place as u32) else {
             break 'rigging Ended::Next {
                 place: place + found.taken,
             };
-        }
-        rig(lines, show, panel, found.command, place as u32);
+        };
+        print(lines, printed);
         place += found.taken;
     };
     ended

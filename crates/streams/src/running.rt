@@ -1,5 +1,5 @@
 // The commands of a stream while the show runs.
-ghost use Rattle.std.specs.Prelude.{◌≡◌, ◌≤◌, true, false, List, length, vec_len, vec_capacity, ◌≢◌};
+ghost use Rattle.std.specs.Prelude.{◌≡◌, ◌≤◌, List, length, vec_len, vec_capacity};
 ghost use Rattle.records.specs.declared.reading.Reading.{Reading as AReading};
 ghost use Rattle.records.specs.declared.telegram.Telegram.{Telegram as ATelegram};
 ghost use Rattle.cabinet.specs.States.{state_of, limits_of};
@@ -11,25 +11,14 @@ ghost use Rattle.streams.specs.Halting.{Halted, Roomy, LeavesRoom};
 
 use crate::calls::call;
 use crate::ended::{Ended, stopped};
+use crate::printed::print;
 use crate::reading::{At, read_at};
 use cabinet::running::RunningShow;
 use panels::panel::Panel;
 use queues::queue::Queue;
 use records::reading::Reading;
 use records::telegram::Telegram;
-use wire::commands::Command;
 use wire::lines::Line;
-
-// Whether a command closes the show.
-fn closes(command: Command) -> bool
-    ensures ends { result ≡ true → command ≡ commands.Close }
-    ensures stays { result ≡ false → command ≢ commands.Close }
-{
-    match command {
-        Command::Close => true,
-        _ => false,
-    }
-}
 
 pub(crate) fn running<Q: Queue<Telegram>, P: Queue<Reading>>(
     bytes: &[u8],
@@ -52,12 +41,12 @@ pub(crate) fn running<Q: Queue<Telegram>, P: Queue<Reading>>(
             At::End => break 'running Ended::Through,
             At::Fault(fault) => break 'running stopped(fault, place),
         };
-        if closes(found.command) {
+        let Some(printed) = call(show, panel, found.command, place as u32) else {
             break 'running Ended::Next {
                 place: place + found.taken,
             };
-        }
-        call(lines, show, panel, found.command, place as u32);
+        };
+        print(lines, printed);
         place += found.taken;
     };
     ended

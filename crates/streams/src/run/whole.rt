@@ -43,9 +43,7 @@ pub fn run<Q: Queue<Telegram> + Drop, P: Queue<Reading> + Drop>(
             readings,
         });
     }
-    // the heading and a line for each byte, since a command that prints two has 16; with one to spare
-    // there is room for two lines before every command
-    let mut lines = Vec::with_capacity(heap, bytes.len() + 2)?;
+    let mut lines = Vec::with_capacity(heap, 2 * bytes.len() + 3)?;
     lines.push_reserved(Line::Heading);
     let mut panel = Panel::new(readings);
     let queue = play(bytes, queue, &mut panel, &mut lines);

@@ -10,8 +10,7 @@ returns-in-Ok g c =
     let a = c.args in
     let t = c.in-Ok.ensures in
     record {
-      did = λ pl readings. record { event = calls (admit a.at a.row a.length a.handle (Ok c.in-Ok.admission)); does = admit_called t.step; prints = c.list_admission.ensures.items };
-      capacity = c.list_admission.ensures.capacity;
+      did = λ pl readings. record { event = calls (admit a.at a.row a.length a.handle (Ok c.in-Ok.admission)); does = admit_called t.step; prints = c.admission_lines.ensures };
       limits = t.limits;
     }
 
@@ -20,7 +19,6 @@ returns-in-Err g c =
     let a = c.args in
     let t = c.in-Err.ensures in
     record {
-      did = λ pl readings. record { event = calls (admit a.at a.row a.length a.handle (Err c.in-Err.fault)); does = admit_called t.step; prints = refused_as _ _ _ _ _ c.from.ensures c.refuse.ensures.items };
-      capacity = c.refuse.ensures.capacity;
+      did = λ pl readings. record { event = calls (admit a.at a.row a.length a.handle (Err c.in-Err.fault)); does = admit_called t.step; prints = refused_as _ _ _ _ c.from.ensures c.refusal.ensures };
       limits = t.limits;
     }

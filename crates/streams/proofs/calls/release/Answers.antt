@@ -1,4 +1,4 @@
-use Rattle.std.proofs.Common.{[], ◌∷◌, ◌++◌, Ok, Err, vec_items, ap, ◌∙◌}
+use Rattle.std.proofs.Common.{[], ◌∷◌, Ok, Err, ap}
 use Rattle.shows.specs.Histories.{release}
 use Rattle.wire.specs.declared.lines.Line.{Line}
 use Rattle.runs.specs.Events.{calls}
@@ -10,8 +10,7 @@ pub returns-in-Ok : goal.returns-in-Ok
 returns-in-Ok g c =
     let t = c.in-Ok.ensures in
     record {
-      did = λ pl readings. record { event = calls (release c.args.at (Ok c.in-Ok.telegram)); does = release_called t.step; prints = c.push_reserved.ensures.items ∙ ap (λ (v : Line). vec_items c.args.lines.now ++ (v ∷ [])) c.departed.ensures };
-      capacity = c.push_reserved.ensures.capacity;
+      did = λ pl readings. record { event = calls (release c.args.at (Ok c.in-Ok.telegram)); does = release_called t.step; prints = ap (λ (v : Line). v ∷ []) c.departed.ensures };
       limits = t.limits;
     }
 
@@ -19,7 +18,6 @@ pub returns-in-Err : goal.returns-in-Err
 returns-in-Err g c =
     let t = c.in-Err.ensures in
     record {
-      did = λ pl readings. record { event = calls (release c.args.at (Err c.in-Err.fault)); does = release_called t.step; prints = refused_as _ _ _ _ _ c.from.ensures c.refuse.ensures.items };
-      capacity = c.refuse.ensures.capacity;
+      did = λ pl readings. record { event = calls (release c.args.at (Err c.in-Err.fault)); does = release_called t.step; prints = refused_as _ _ _ _ c.from.ensures c.refusal.ensures };
       limits = t.limits;
     }

@@ -1,12 +1,7 @@
-use Rattle.std.proofs.Common.{[], refl, ◌∙◌, arith}
-use Rattle.shows.specs.Histories.{fresh}
-use Rattle.streams.proofs.Doing.{lines_within}
+use Rattle.std.proofs.Common.{refl, ◌∙◌, arith}
 use Rattle.streams.proofs.Going.{command_more}
 use Rattle.streams.proofs.Stopping.{stops_there, room_there}
 use Rattle.streams.proofs.closed.closed.Goals as goal
-
-pub outlast-requires : goal.outlast-requires
-outlast-requires g c = omega (arith, c.in-Command.ensures.1, c.in-Command.ensures.2)
 
 pub closed-preserved : goal.closed-preserved
 closed-preserved g c =
@@ -14,14 +9,11 @@ closed-preserved g c =
     let place = c.closed.place in
     let bytes = c.args.bytes.now in
     let at = c.in-Command.ensures in
-    let did = c.outlast.ensures in
-    let inv = c.closed.invariant in
-    let fits = lines_within bytes place f (did.did (record { capacity = 0; slack = 0 }) (fresh [] [])) at.0 in
-    let before = c.closed.lines.ok.0 in
-    let after = c.outlast.new.lines.ok.0 in (
-      (at.2, omega (arith, at.1, did.capacity)),
+    let did = c.outlast-printed.ensures in
+    let inv = c.closed.invariant in (
+      (at.2, omega (arith, at.1)),
       did.limits ∙ inv.1,
-      λ l s h rs r. command_more l _ bytes h rs place _ _ _ f _ _ _ l _ refl inv.1 place refl (did.did l s) at.0 (inv.2 l s h rs r),
+      λ l s h rs r. command_more l _ bytes h rs place _ _ _ f _ _ _ l _ refl inv.1 place refl c.outlast-printed.result (did.did l s) at.0 c.print.ensures.items (inv.2 l s h rs r),
     )
 
 pub returns-in-End : goal.returns-in-End

@@ -1,5 +1,6 @@
-use Rattle.std.proofs.Common.{Ok, Err, vec_items, sym, refl, append-nil}
+use Rattle.std.proofs.Common.{Ok, Err, refl}
 use Rattle.runs.proofs.Panels.{offer_limits}
+use Rattle.streams.specs.declared.printed.Printed.TheVariants.{Nothing}
 use Rattle.streams.proofs.Doing.{refused_as, offer_did, same_limits}
 use Rattle.streams.proofs.figures.offer.Goals as goal
 
@@ -11,8 +12,7 @@ returns-in-Ok g c =
     let r = Ok c.in-Ok._left in
     let t = c.in-Ok.ensures.offers in
     record {
-      did = offer_did m.held m.room m.slack q q' c.args.reading r c.args.place _ _ t (sym (append-nil (vec_items c.args.lines.now)));
-      capacity = refl;
+      did = offer_did m.held m.room m.slack q q' c.args.reading r c.args.place Nothing t refl;
       limits = same_limits m.held m.room m.slack q q' (offer_limits m.held m.room m.slack q q' c.args.reading r t);
     }
 
@@ -24,7 +24,6 @@ returns-in-Err g c =
     let r = Err c.in-Err.fault in
     let t = c.in-Err.ensures.offers in
     record {
-      did = offer_did m.held m.room m.slack q q' c.args.reading r c.args.place _ _ t (refused_as _ _ _ _ _ c.from.ensures c.refuse.ensures.items);
-      capacity = c.refuse.ensures.capacity;
+      did = offer_did m.held m.room m.slack q q' c.args.reading r c.args.place c.refusal.result t (refused_as _ _ _ _ c.from.ensures c.refusal.ensures);
       limits = same_limits m.held m.room m.slack q q' (offer_limits m.held m.room m.slack q q' c.args.reading r t);
     }

@@ -7,7 +7,6 @@ pub returns-in_default : goal.returns-in_default
 returns-in_default g c =
     let h = c.in_default in
     record {
-      did = λ l s. unsuited_did l _ _ _ c.args.command c.args.place _ _ (closed_unsuited s c.args.command h.not-Reading h.not-Show) c.refuse.ensures.items;
-      capacity = c.refuse.ensures.capacity;
+      did = λ l s. unsuited_did l _ _ _ c.args.command c.args.place c.refusal.result (closed_unsuited s c.args.command h.not-Reading h.not-Show) c.refusal.ensures;
       limits = refl;
     }

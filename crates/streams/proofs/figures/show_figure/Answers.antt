@@ -1,4 +1,4 @@
-use Rattle.std.proofs.Common.{[], ◌∷◌, ◌++◌, ℤ, Ok, Err, vec_items, ap, ◌∙◌, w32, SFits, rules}
+use Rattle.std.proofs.Common.{[], ◌∷◌, ℤ, Ok, Err, ap, w32, SFits, rules}
 use Rattle.std.proofs.lemmas.Int.{to_z-of_z}
 use Rattle.wire.specs.declared.lines.Line.TheVariants.{Figure}
 use Rattle.runs.proofs.Panels.{show_limits}
@@ -14,8 +14,7 @@ returns-in-Ok g c =
     let t = c.in-Ok.ensures.shows in
     let fits : SFits w32 n = search rules in
     record {
-      did = show_did m.held m.room m.slack q q' (Ok n) c.args.place _ _ t (c.push_reserved.ensures.items ∙ ap (λ (v : ℤ). vec_items c.args.lines.now ++ (Figure v ∷ [])) (to_z-of_z w32 n fits));
-      capacity = c.push_reserved.ensures.capacity;
+      did = show_did m.held m.room m.slack q q' (Ok n) c.args.place _ t (ap (λ (v : ℤ). Figure v ∷ []) (to_z-of_z w32 n fits));
       limits = same_limits m.held m.room m.slack q q' (show_limits m.held m.room m.slack q q' (Ok n) t);
     }
 
@@ -27,7 +26,6 @@ returns-in-Err g c =
     let r = Err c.in-Err.fault in
     let t = c.in-Err.ensures.shows in
     record {
-      did = show_did m.held m.room m.slack q q' r c.args.place _ _ t (refused_as _ _ _ _ _ c.from.ensures c.refuse.ensures.items);
-      capacity = c.refuse.ensures.capacity;
+      did = show_did m.held m.room m.slack q q' r c.args.place c.refusal.result t (refused_as _ _ _ _ c.from.ensures c.refusal.ensures);
       limits = same_limits m.held m.room m.slack q q' (show_limits m.held m.room m.slack q q' r t);
     }

@@ -1,11 +1,8 @@
-use Rattle.std.proofs.Common.{refl, ◌∙◌, arith}
-use Rattle.streams.proofs.Doing.{lines_within}
+use Rattle.std.proofs.Common.{sym, refl, ◌∙◌, arith}
+use Rattle.runs.proofs.Going.{stood}
 use Rattle.streams.proofs.Going.{command_more}
 use Rattle.streams.proofs.Stopping.{stops_there, room_here}
 use Rattle.streams.proofs.rigging.rigging.Goals as goal
-
-pub rig-requires : goal.rig-requires
-rig-requires g c = record { room = omega (arith, c.in-Command.ensures.1, c.in-Command.ensures.2); other = c.starts.ensures.stays c.if-starts.false }
 
 pub rigging-preserved : goal.rigging-preserved
 rigging-preserved g c =
@@ -13,15 +10,12 @@ rigging-preserved g c =
     let place = c.rigging.place in
     let bytes = c.args.bytes.now in
     let at = c.in-Command.ensures in
-    let did = c.rig.ensures in
-    let inv = c.rigging.invariant in
-    let fits = lines_within bytes place f (did.did (record { capacity = 0; slack = 0 })) at.0 in
-    let before = c.rigging.lines.ok.0 in
-    let after = c.rig.new.lines.ok.0 in (
-      (at.2, omega (arith, at.1, did.capacity)),
+    let did = c.in-Some.ensures in
+    let inv = c.rigging.invariant in (
+      (at.2, omega (arith, at.1)),
       did.queue ∙ inv.1,
       did.limits ∙ inv.2,
-      λ l h rs r. command_more l _ bytes h rs place _ _ _ f _ _ _ l _ refl inv.2 place refl (did.did l) at.0 (inv.3 l h rs r),
+      λ l h rs r. command_more l _ bytes h rs place _ _ _ f _ _ _ l _ refl inv.2 place refl c.in-Some.printed (did.handles l) at.0 c.print.ensures.items (inv.3 l h rs r),
     )
 
 pub returns-in-End : goal.returns-in-End
@@ -45,14 +39,17 @@ returns-in-Fault g c =
       limits = inv.2;
     }
 
-pub returns-then-starts : goal.returns-then-starts
-returns-then-starts g c =
+pub returns-in_default : goal.returns-in_default
+returns-in_default g c =
     let f = c.in-Command.found in
+    let place = c.rigging.place in
+    let bytes = c.args.bytes.now in
     let at = c.in-Command.ensures in
+    let stays = c.in_default.ensures in
     let inv = c.rigging.invariant in
     record {
-      halted = λ l h rs r. record { place = c.rigging.place; reached = inv.3 l h rs r; why = (f, at.0, c.starts.ensures.ends c.if-starts.true, refl) };
+      halted = λ l h rs r. record { place = place; reached = stood l _ bytes h rs place _ _ _ _ _ (sym (stays.handles l).1) (sym (stays.handles l).2) (inv.3 l h rs r); why = (f, at.0, (stays.handles l).0, refl) };
       room = (at.2, omega (arith, at.1));
-      queue = inv.1;
-      limits = inv.2;
+      queue = stays.queue ∙ inv.1;
+      limits = stays.limits ∙ inv.2;
     }

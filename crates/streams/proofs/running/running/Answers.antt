@@ -1,11 +1,8 @@
-use Rattle.std.proofs.Common.{refl, ◌∙◌, arith}
-use Rattle.streams.proofs.Doing.{lines_within}
+use Rattle.std.proofs.Common.{sym, refl, ◌∙◌, arith}
+use Rattle.runs.proofs.Going.{stood}
 use Rattle.streams.proofs.Going.{command_more}
 use Rattle.streams.proofs.Stopping.{stops_there, room_here}
 use Rattle.streams.proofs.running.running.Goals as goal
-
-pub call-requires : goal.call-requires
-call-requires g c = record { room = omega (arith, c.in-Command.ensures.1, c.in-Command.ensures.2); other = c.closes.ensures.stays c.if-closes.false }
 
 pub running-preserved : goal.running-preserved
 running-preserved g c =
@@ -13,15 +10,12 @@ running-preserved g c =
     let place = c.running.place in
     let bytes = c.args.bytes.now in
     let at = c.in-Command.ensures in
-    let did = c.call.ensures in
-    let inv = c.running.invariant in
-    let fits = lines_within bytes place f did.did at.0 in
-    let before = c.running.lines.ok.0 in
-    let after = c.call.new.lines.ok.0 in (
-      (at.2, omega (arith, at.1, did.capacity)),
+    let did = c.in-Some.ensures in
+    let inv = c.running.invariant in (
+      (at.2, omega (arith, at.1)),
       did.limits ∙ inv.1,
       did.panel ∙ inv.2,
-      λ h rs r. command_more _ _ bytes h rs place _ _ _ f _ _ _ _ _ inv.1 inv.2 place refl did.did at.0 (inv.3 h rs r),
+      λ h rs r. command_more _ _ bytes h rs place _ _ _ f _ _ _ _ _ inv.1 inv.2 place refl c.in-Some.printed did.handles at.0 c.print.ensures.items (inv.3 h rs r),
     )
 
 pub returns-in-End : goal.returns-in-End
@@ -45,14 +39,17 @@ returns-in-Fault g c =
       panel = inv.2;
     }
 
-pub returns-then-closes : goal.returns-then-closes
-returns-then-closes g c =
+pub returns-in_default : goal.returns-in_default
+returns-in_default g c =
     let f = c.in-Command.found in
+    let place = c.running.place in
+    let bytes = c.args.bytes.now in
     let at = c.in-Command.ensures in
+    let stays = c.in_default.ensures in
     let inv = c.running.invariant in
     record {
-      halted = λ h rs r. record { place = c.running.place; reached = inv.3 h rs r; why = (f, at.0, c.closes.ensures.ends c.if-closes.true, refl) };
+      halted = λ h rs r. record { place = place; reached = stood _ _ bytes h rs place _ _ _ _ _ (sym stays.handles.1) (sym stays.handles.2) (inv.3 h rs r); why = (f, at.0, stays.handles.0, refl) };
       room = (at.2, omega (arith, at.1));
-      limits = inv.1;
-      panel = inv.2;
+      limits = stays.limits ∙ inv.1;
+      panel = stays.panel ∙ inv.2;
     }

@@ -6,10 +6,9 @@ use Rattle.streams.proofs.settings.rig.Goals as goal
 pub returns-in_default : goal.returns-in_default
 returns-in_default g c =
     let h = c.in_default in
-    let unfit = rigging_unsuited c.args.show.now.rows (g.Q.Queue.held c.args.show.now.queue) c.args.command h.not-SetRow c.requires.other h.not-Reading h.not-Show in
+    let unfit = rigging_unsuited c.args.show.now.rows (g.Q.Queue.held c.args.show.now.queue) c.args.command h.not-SetRow h.not-Start h.not-Reading h.not-Show in
     record {
-      did = λ l. unsuited_did l _ _ _ c.args.command c.args.place _ _ unfit c.refuse.ensures.items;
-      capacity = c.refuse.ensures.capacity;
+      handles = λ l. unsuited_did l _ _ _ c.args.command c.args.place c.refusal.result unfit c.refusal.ensures;
       queue = refl;
       limits = refl;
     }
