@@ -1,4 +1,4 @@
-//! The proved functions, by the static library that `rt staticlib` builds.
+//! The proved functions, by the static library that `rt lib` builds.
 use crate::mixes::Slip;
 
 mod raw {
