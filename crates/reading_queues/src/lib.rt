@@ -1,5 +1,5 @@
-// The queues of readings, each under its kind (docs/QUEUES.md).
+// The queues of readings, both under one name (docs/QUEUES.md).
 #![tactic(auto)]
 
-pub mod groups;
-pub mod sorted;
+pub use reading_groups::ReadingGroups;
+pub use reading_sorted::ReadingSorted;

@@ -1,5 +1,5 @@
-// The queues of telegrams, each under its kind (docs/QUEUES.md).
+// The queues of telegrams, both under one name (docs/QUEUES.md).
 #![tactic(auto)]
 
-pub mod groups;
-pub mod sorted;
+pub use telegram_groups::TelegramGroups;
+pub use telegram_sorted::TelegramSorted;

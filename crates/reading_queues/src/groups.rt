@@ -1,2 +1,0 @@
-// The grouped queue of readings.
-pub use reading_groups::ReadingGroups;

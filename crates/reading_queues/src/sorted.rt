@@ -1,2 +1,0 @@
-// The sorted queue of readings.
-pub use reading_sorted::ReadingSorted;

@@ -1,2 +1,0 @@
-// The grouped queue of telegrams.
-pub use telegram_groups::TelegramGroups;

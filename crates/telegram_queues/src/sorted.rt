@@ -1,2 +1,0 @@
-// The sorted queue of telegrams.
-pub use telegram_sorted::TelegramSorted;
