@@ -3,7 +3,7 @@ mod order;
 ghost use Rattle.std.specs.Prelude.{◌^◌, ◌<◌};
 
 // A telegram to a seat row. Telegrams stand in the order of their fields, each unsigned, smaller first.
-#[derive(Clone, Copy, PartialEq, Eq, Debug)]
+#[derive(Clone, Copy, PartialEq, Eq, PartialOrd, Ord, Debug)]
 pub struct Telegram {
     // the tick (one microsecond) from which it may leave
     pub release: u64,

@@ -15,19 +15,7 @@ impl Record for Telegram {
     ghost ends = { Telegrams.ends };
 
     fn no_later(&self, other: &Telegram) -> bool {
-        if self.release != other.release {
-            return self.release < other.release;
-        }
-        if self.number != other.number {
-            return self.number < other.number;
-        }
-        if self.row != other.row {
-            return self.row < other.row;
-        }
-        if self.length != other.length {
-            return self.length < other.length;
-        }
-        self.handle <= other.handle
+        self <= other
     }
 
     fn blank() -> Telegram {
