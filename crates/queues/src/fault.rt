@@ -1,12 +1,12 @@
 mod numbers;
 
-// Why a queue refuses.
+// Why a queue refuses, with the number under which that is reported (docs/REFUSALS.md).
 #[derive(Clone, Copy, PartialEq, Eq, Debug)]
 pub enum QueueFault {
     // nothing is held
-    Empty,
+    Empty = 8,
     // the record is the blank
-    Blank,
+    Blank = 11,
     // the cells do not have the shape that is asked for
-    Shape,
+    Shape = 12,
 }

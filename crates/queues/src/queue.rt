@@ -1,14 +1,27 @@
 ghost use Rattle.std.specs.Prelude.{◌≡◌, ℕ, List, length, ◌==◌};
-ghost use Rattle.queues.specs.Queues.{Lawful, Puts, Takes, Exchanges, first_of, told};
+ghost use Rattle.queues.specs.Queues.{Lawful, Puts, Takes, Exchanges, first_of, put_of, told};
 
 use crate::fault::QueueFault;
 use records::record::Record;
 
 // What became of a record that was put: it is kept, and where the queue was full another left for it.
+// The two cases are an enum of their own, and no `Option`: a put's answer is named by what became of it.
 #[derive(Clone, Copy, PartialEq, Eq, Debug)]
 pub enum Put<R> {
     Kept,
     Displaced(R),
+}
+
+impl<R> Put<R> {
+    // The record that left for the one that was put, where one did.
+    pub fn displaced(self) -> Option<R>
+        ensures { self ≡ put_of result }
+    {
+        match self {
+            Put::Kept => None,
+            Put::Displaced(out) => Some(out),
+        }
+    }
 }
 
 // A queue of records. It means the collection that it holds (`held`, as one ascending list in which

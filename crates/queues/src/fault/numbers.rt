@@ -8,10 +8,6 @@ impl QueueFault {
     pub fn number(self) -> u8
         ensures { result ≡ number_of self }
     {
-        match self {
-            QueueFault::Empty => 8,
-            QueueFault::Blank => 11,
-            QueueFault::Shape => 12,
-        }
+        self as u8
     }
 }
