@@ -1,12 +1,14 @@
 mod numbers;
 
+use thiserror::Error;
+
 // Why a queue refuses, with the number under which that is reported (docs/REFUSALS.md).
-#[derive(Clone, Copy, PartialEq, Eq, Debug)]
+#[derive(Clone, Copy, PartialEq, Eq, Debug, Error)]
 pub enum QueueFault {
-    // nothing is held
+    #[error("nothing is held")]
     Empty = 8,
-    // the record is the blank
+    #[error("the record is the blank")]
     Blank = 11,
-    // the cells do not have the shape that is asked for
+    #[error("the cells do not have the shape that is asked for")]
     Shape = 12,
 }
