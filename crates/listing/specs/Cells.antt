@@ -1,6 +1,7 @@
 -- The queues of the cabinet, empty.
 use Rattle.std.specs.Prelude.{◌≡◌, []}
-use Rattle.records.specs.Telegrams.{stands, blank}
+use Rattle.records.specs.Telegrams.{stands}
+use Rattle.records.specs.declared.record.Record.{Ghosts}
 use Rattle.records.specs.declared.telegram.Telegram.{Telegram}
 use Rattle.sides.specs.Sides.{side_held, side_room, side_slack}
 use Rattle.sides.specs.declared.SideCell.{SideCell}
@@ -10,8 +11,8 @@ use Rattle.reading_groups.specs.Held as readings
 use Rattle.reading_groups.specs.declared.ReadingGroups.{ReadingGroups}
 
 -- a side cell over 8 groups of 4: 33 telegrams at most, slack 9
-pub record EmptyTelegrams (q : SideCell Telegram TelegramGroups) : Type 0 where
-  pub none : side_held stands blank telegrams.held_by q ≡ []
+pub record EmptyTelegrams {kind : Ghosts Telegram} (q : SideCell Telegram TelegramGroups kind) : Type 0 where
+  pub none : side_held stands telegrams.held_by q ≡ []
   pub room : side_room telegrams.room_by q ≡ 33
   pub slack : side_slack telegrams.slack_by q ≡ 9
 

@@ -12,7 +12,7 @@ pub enum Put<R> {
     Displaced(R),
 }
 
-impl<R> Put<R> {
+impl<R: Record> Put<R> {
     // The record that left for the one that was put, where one did.
     pub fn displaced(self) -> Option<R>
         ensures { self ≡ put_of result }

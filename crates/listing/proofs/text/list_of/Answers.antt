@@ -1,6 +1,6 @@
 use Rattle.std.proofs.Common.{◌≡◌, ℕ, List, [], IfOk, Ok, Err, vec_items, Result, refl, ap, ◌∙◌, subst}
 use Rattle.std.specs.List.{flat_map}
-use Rattle.records.specs.Telegrams.{stands, blank}
+use Rattle.records.specs.Telegrams.{stands}
 use Rattle.records.specs.declared.reading.Reading.{Reading}
 use Rattle.records.specs.declared.telegram.Telegram.{Telegram}
 use Rattle.sides.specs.Sides.{side_held}
@@ -32,7 +32,7 @@ returns c =
     let bytes = c.args.bytes.now in
     let listed = c.in_ok-listed.listed in
     let lines = vec_items listed.lines in
-    let held = side_held stands blank telegrams.held_by listed.queue in
+    let held = side_held stands telegrams.held_by listed.queue in
     let left = readings.held_by listed.readings in
     let queue = c.in_ok-queue.ensures in
     let panel = c.in_ok-panel.ensures in
