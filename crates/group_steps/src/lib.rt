@@ -5,51 +5,54 @@
 ghost use Rattle.std.specs.Prelude.{◌≡◌, ◌+◌, ◌-◌, ◌*◌, ◌<◌, ◌≤◌, length, drop, slice_index_or};
 ghost use Rattle.records.specs.Sorting.{insert, Ascending, earlier, later};
 ghost use Rattle.standing.specs.Facts.{Ascends};
-ghost use Rattle.standing.specs.Shapes.{Fits};
 ghost use Rattle.standing.specs.Steps.{groups_of, next_a, s_of, put_cells, take_cells, exchange_cells};
 
 use cells::{replace_first, replace_last};
 use records::record::Record;
+use shapes::Shape;
 
 // Takes x in: each group hands its last record on to the next group. Answers what the last group
 // hands out.
-pub fn put_step<R: Record>(cells: &mut [R], groups: usize, size: usize, x: R) -> R
-    requires fits { Fits groups size (length cells.old) }
-    requires ascends { Ascends R.Record.order R.Record.last groups size cells.old }
-    ensures cells { cells.new ≡ put_cells R.Record.order R.Record.last groups size x cells.old }
-    ensures out { result ≡ slice_index_or cells.old (groups * size - 1) R.Record.last }
+pub fn put_step<R: Record>(cells: &mut [R], shape: Shape, x: R) -> R
+    requires whole { length cells.old ≡ shape.groups * shape.size }
+    requires ascends { Ascends R.Record.order R.Record.last shape.groups shape.size cells.old }
+    ensures cells { cells.new ≡ put_cells R.Record.order R.Record.last shape.groups shape.size x cells.old }
+    ensures out { result ≡ slice_index_or cells.old (shape.groups * shape.size - 1) R.Record.last }
 {
     let mut z = x;
-    for i in 0..groups {
-        z = replace_last(&mut cells[i * size..i * size + size], z);
+    for i in 0..shape.groups {
+        z = replace_last(&mut cells[i * shape.size..i * shape.size + shape.size], z);
     }
     z
 }
 
 // The first record of the group after group i, and the blank after the last group.
-fn next_first<R: Record>(cells: &[R], groups: usize, size: usize, i: usize) -> R
-    requires fits { Fits groups size (length cells.now) }
-    requires inside { i < groups }
-    ensures { result ≡ next_a R.Record.last (groups_of (groups - (i + 1)) size (drop ((i + 1) * size) cells.now)) }
+fn next_first<R: Record>(cells: &[R], shape: Shape, i: usize) -> R
+    requires whole { length cells.now ≡ shape.groups * shape.size }
+    requires inside { i < shape.groups }
+    ensures { result ≡ next_a R.Record.last (groups_of (shape.groups - (i + 1)) shape.size (drop ((i + 1) * shape.size) cells.now)) }
 {
-    if i + 1 < groups {
-        cells[(i + 1) * size]
+    if i + 1 < shape.groups {
+        cells[(i + 1) * shape.size]
     } else {
         R::blank()
     }
 }
 
 // Lets the first record go: each group takes the first record of the next group in.
-pub fn take_step<R: Record>(cells: &mut [R], groups: usize, size: usize) -> R
-    requires fits { Fits groups size (length cells.old) }
-    requires ascends { Ascends R.Record.order R.Record.last groups size cells.old }
-    ensures cells { cells.new ≡ take_cells R.Record.order R.Record.last groups size cells.old }
+pub fn take_step<R: Record>(cells: &mut [R], shape: Shape) -> R
+    requires whole { length cells.old ≡ shape.groups * shape.size }
+    requires ascends { Ascends R.Record.order R.Record.last shape.groups shape.size cells.old }
+    ensures cells { cells.new ≡ take_cells R.Record.order R.Record.last shape.groups shape.size cells.old }
     ensures out { result ≡ slice_index_or cells.old 0 R.Record.last }
 {
     let first = cells[0];
-    for i in 0..groups {
-        let next = next_first(cells, groups, size, i);
-        let _ = replace_first(&mut cells[i * size..i * size + size], next);
+    for i in 0..shape.groups {
+        let next = next_first(cells, shape, i);
+        let _ = replace_first(
+            &mut cells[i * shape.size..i * shape.size + shape.size],
+            next,
+        );
     }
     first
 }
@@ -75,18 +78,22 @@ fn refit<R: Record>(group: &mut [R], a: R, z: R)
 
 // Lets the first record go and takes x in: of a group's last record and the next group's first, the
 // earlier stays and the later goes on.
-pub fn exchange_step<R: Record>(cells: &mut [R], groups: usize, size: usize, x: R) -> R
-    requires fits { Fits groups size (length cells.old) }
-    requires ascends { Ascends R.Record.order R.Record.last groups size cells.old }
-    ensures cells { cells.new ≡ exchange_cells R.Record.order R.Record.last groups size x cells.old }
+pub fn exchange_step<R: Record>(cells: &mut [R], shape: Shape, x: R) -> R
+    requires whole { length cells.old ≡ shape.groups * shape.size }
+    requires ascends { Ascends R.Record.order R.Record.last shape.groups shape.size cells.old }
+    ensures cells { cells.new ≡ exchange_cells R.Record.order R.Record.last shape.groups shape.size x cells.old }
     ensures out { result ≡ slice_index_or cells.old 0 R.Record.last }
 {
     let first = cells[0];
     let mut a = x;
-    for i in 0..groups {
-        let next = next_first(cells, groups, size, i);
-        let (low, high) = by_order(cells[i * size + size - 1], next);
-        refit(&mut cells[i * size..i * size + size], a, low);
+    for i in 0..shape.groups {
+        let next = next_first(cells, shape, i);
+        let (low, high) = by_order(cells[i * shape.size + shape.size - 1], next);
+        refit(
+            &mut cells[i * shape.size..i * shape.size + shape.size],
+            a,
+            low,
+        );
         a = high;
     }
     first

@@ -3,7 +3,9 @@
 #![tactic(auto)]
 
 mod groups;
+mod shape;
 mod sorted;
 
 pub use groups::GroupCells;
+pub use shape::Shape;
 pub use sorted::SortedCells;

@@ -4,14 +4,14 @@ use Rattle.standing.proofs.Rows.{row_end, next_is}
 use Rattle.group_steps.proofs.next_first.Goals as goal
 
 pub offset_bounds-cells-i : goal.offset_bounds-cells-i
-offset_bounds-cells-i g c = let r = row_end (c.args.i + 1) c.args.groups c.args.size c.if-i-groups.true in omega arith
+offset_bounds-cells-i g c = let r = row_end (c.args.i + 1) c.args.shape.groups c.args.shape.size c.if-i-shape.true in omega arith
 
 pub bounds-cells-i : goal.bounds-cells-i
-bounds-cells-i g c = let r = row_end (c.args.i + 1) c.args.groups c.args.size c.if-i-groups.true in omega arith
+bounds-cells-i g c = let r = row_end (c.args.i + 1) c.args.shape.groups c.args.shape.size c.if-i-shape.true in omega arith
 
-pub returns-then-i-groups : goal.returns-then-i-groups
-returns-then-i-groups g c =
-    let r = row_end (c.args.i + 1) c.args.groups c.args.size c.if-i-groups.true in
-    let l : (c.args.i + 1) * c.args.size < length c.args.cells.now = omega arith in
-    get_or_read c.args.cells.now ((c.args.i + 1) * c.args.size) c.index-cells-i.result l c.index-cells-i.is g.R.Record.last
-    ∙ sym (next_is g.R.Record.last c.args.groups c.args.size c.args.i c.args.cells.now c.if-i-groups.true c.requires.fits.two)
+pub returns-then-i-shape : goal.returns-then-i-shape
+returns-then-i-shape g c =
+    let r = row_end (c.args.i + 1) c.args.shape.groups c.args.shape.size c.if-i-shape.true in
+    let l : (c.args.i + 1) * c.args.shape.size < length c.args.cells.now = omega arith in
+    get_or_read c.args.cells.now ((c.args.i + 1) * c.args.shape.size) c.index-cells-i.result l c.index-cells-i.is g.R.Record.last
+    ∙ sym (next_is g.R.Record.last c.args.shape.groups c.args.shape.size c.args.i c.args.cells.now c.if-i-shape.true c.args.shape.two)

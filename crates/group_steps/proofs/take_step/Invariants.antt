@@ -5,6 +5,6 @@ use Rattle.group_steps.proofs.take_step.Given as goal
 
 abbrev pub invariant-loop-i : goal.invariant-loop-i
 invariant-loop-i g l =
-    (take (l.i * l.size) l.cells ++ flat (take_groups g.R.Record.order g.R.Record.last l.size (rows l.groups l.size l.i l.initial.cells))
-    ≡ take_cells g.R.Record.order g.R.Record.last l.groups l.size l.initial.cells)
-    × (drop (l.i * l.size) l.cells ≡ drop (l.i * l.size) l.initial.cells)
+    (take (l.i * l.shape.size) l.cells ++ flat (take_groups g.R.Record.order g.R.Record.last l.shape.size (rows l.shape.groups l.shape.size l.i l.initial.cells))
+    ≡ take_cells g.R.Record.order g.R.Record.last l.shape.groups l.shape.size l.initial.cells)
+    × (drop (l.i * l.shape.size) l.cells ≡ drop (l.i * l.shape.size) l.initial.cells)
