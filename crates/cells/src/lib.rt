@@ -15,14 +15,15 @@ pub fn replace_last<R: Record>(cells: &mut [R], x: R) -> R
     ensures cells { cells.new ≡ insert R.Record.order x (take (length cells.old - 1) cells.old) }
     ensures out { (d : R) → result ≡ slice_index_or cells.old (length cells.old - 1) d }
 {
-    let n = cells.len();
-    let last = cells[n - 1];
-    let mut k = n - 1;
-    while k > 0 && !cells[k - 1].no_later(&x) {
-        cells[k] = cells[k - 1];
-        k -= 1;
+    let last = cells[cells.len() - 1];
+    for k in (0..cells.len() - 1).rev() {
+        if cells[k].no_later(&x) {
+            cells[k + 1] = x;
+            return last;
+        }
+        cells[k + 1] = cells[k];
     }
-    cells[k] = x;
+    cells[0] = x;
     last
 }
 
@@ -32,18 +33,21 @@ pub fn replace_first<R: Record>(cells: &mut [R], x: R) -> R
     ensures cells { cells.new ≡ insert R.Record.order x (drop 1 cells.old) }
     ensures out { (d : R) → result ≡ slice_index_or cells.old 0 d }
 {
-    let n = cells.len();
     let first = cells[0];
-    let mut k = 0;
-    while k + 1 < n && !x.no_later(&cells[k + 1]) {
+    let n = cells.len();
+    for k in 0..n - 1 {
+        if x.no_later(&cells[k + 1]) {
+            cells[k] = x;
+            return first;
+        }
         cells[k] = cells[k + 1];
-        k += 1;
     }
-    cells[k] = x;
+    cells[n - 1] = x;
     first
 }
 
-// Sets each cell blank.
+// Sets each cell blank. `fill` would ask that a clone cannot fail, which no kind of record promises,
+// and no proof covers `fill_with` of a kind's `blank`.
 pub fn blank_all<R: Record>(cells: &mut [R])
     ensures { cells.new ≡ replicate (length cells.old) R.Record.last }
 {

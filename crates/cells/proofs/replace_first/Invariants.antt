@@ -1,4 +1,4 @@
-use Rattle.std.proofs.Common.{◌≡◌, ◌+◌, ◌-◌, ◌<◌, false, length, take, drop}
+use Rattle.std.proofs.Common.{◌≡◌, ◌+◌, ◌<◌, false, length, take, drop}
 use Rattle.std.specs.List.{AllByRecursion as All}
 use Rattle.cells.proofs.replace_first.Given as goal
 
@@ -8,6 +8,3 @@ invariant-loop-k g l =
     × (take l.k l.cells ≡ take l.k (drop 1 l.initial.cells))
     × (drop (l.k + 1) l.cells ≡ drop (l.k + 1) l.initial.cells)
     × All (λ y. g.R.Record.order l.x y ≡ false) (take l.k (drop 1 l.initial.cells))
-
-abbrev pub decreases-loop-k : goal.decreases-loop-k
-decreases-loop-k g l = l.n - l.k
