@@ -21,22 +21,9 @@ pub fn put_step<R: Record>(cells: &mut [R], shape: Shape, x: R) -> R
 {
     let mut z = x;
     for i in 0..shape.groups {
-        z = replace_last(&mut cells[i * shape.size..i * shape.size + shape.size], z);
+        z = replace_last(&mut cells[i * shape.size..(i + 1) * shape.size], z);
     }
     z
-}
-
-// The first record of the group after group i, and the blank after the last group.
-fn next_first<R: Record>(cells: &[R], shape: Shape, i: usize) -> R
-    requires whole { length cells.now ≡ shape.groups * shape.size }
-    requires inside { i < shape.groups }
-    ensures { result ≡ next_a R.Record.last (groups_of (shape.groups - (i + 1)) shape.size (drop ((i + 1) * shape.size) cells.now)) }
-{
-    if i + 1 < shape.groups {
-        cells[(i + 1) * shape.size]
-    } else {
-        R::blank()
-    }
 }
 
 // Lets the first record go: each group takes the first record of the next group in.
@@ -46,15 +33,11 @@ pub fn take_step<R: Record>(cells: &mut [R], shape: Shape) -> R
     ensures cells { cells.new ≡ take_cells R.Record.order R.Record.last shape.groups shape.size cells.old }
     ensures out { result ≡ slice_index_or cells.old 0 R.Record.last }
 {
-    let first = cells[0];
-    for i in 0..shape.groups {
-        let next = next_first(cells, shape, i);
-        let _ = replace_first(
-            &mut cells[i * shape.size..i * shape.size + shape.size],
-            next,
-        );
+    let mut next = R::blank();
+    for i in (0..shape.groups).rev() {
+        next = replace_first(&mut cells[i * shape.size..(i + 1) * shape.size], next);
     }
-    first
+    next
 }
 
 // Two records, the one that stands first before the other.
@@ -71,8 +54,7 @@ fn refit<R: Record>(group: &mut [R], a: R, z: R)
     requires ascending { Ascending R.Record.order group.old }
     ensures { group.new ≡ insert R.Record.order a (insert R.Record.order z (s_of (length group.old) group.old)) }
 {
-    let n = group.len();
-    let _ = replace_last(&mut group[1..n], z);
+    let _ = replace_last(&mut group[1..], z);
     let _ = replace_first(group, a);
 }
 
@@ -87,13 +69,13 @@ pub fn exchange_step<R: Record>(cells: &mut [R], shape: Shape, x: R) -> R
     let first = cells[0];
     let mut a = x;
     for i in 0..shape.groups {
-        let next = next_first(cells, shape, i);
-        let (low, high) = by_order(cells[i * shape.size + shape.size - 1], next);
-        refit(
-            &mut cells[i * shape.size..i * shape.size + shape.size],
-            a,
-            low,
-        );
+        let next = cells
+            .get((i + 1) * shape.size)
+            .copied()
+            .unwrap_or(R::blank());
+        let group = &mut cells[i * shape.size..(i + 1) * shape.size];
+        let (low, high) = by_order(group[shape.size - 1], next);
+        refit(group, a, low);
         a = high;
     }
     first

@@ -1,6 +1,7 @@
 -- Cells and their groups: the cells of group i, and what is left from it on.
-use Rattle.std.proofs.Common.{◌≡◌, ℕ, zero, suc, ◌+◌, ◌-◌, ◌*◌, ◌<◌, ◌≤◌, Bool, true, List, ◌∷◌, ◌++◌, length, get_or, take, drop, sym, ap, ◌∙◌, subst, mul-le-mul_right, suc-mul, add-mul, one-mul, zero-mul, arith}
-use Rattle.std.proofs.lemmas.List.{drop-drop, get_or-take, get_or-drop, length-take-le, length-drop, take-append-drop, nil_from_length}
+use Rattle.std.proofs.Common.{◌≡◌, ℕ, zero, suc, ◌+◌, ◌-◌, ◌*◌, ◌<◌, ◌≤◌, Bool, true, List, ◌∷◌, ◌++◌, length, get_or, take, drop, sym, ap, ◌∙◌, subst, ⊎_elim, mul-le-mul_right, suc-mul, add-mul, one-mul, zero-mul, arith}
+use Rattle.std.proofs.lemmas.Bool.{cases_lt}
+use Rattle.std.proofs.lemmas.List.{drop-drop, get_or-take, get_or-drop, get_or_past, length-take-le, length-drop, take-append-drop, nil_from_length}
 use Rattle.records.specs.Sorting.{Ascending}
 use Rattle.standing.specs.Facts.{cell, Ascends}
 use Rattle.standing.specs.Steps.{groups_of, flat, next_a}
@@ -11,6 +12,9 @@ row_end i m n h = let s : suc i ≤ m = omega arith in let a = mul-le-mul_right 
 
 pub row_next : (i n : ℕ) → (i + 1) * n ≡ i * n + n
 row_next i n = add-mul i 1 n ∙ ap (λ v. i * n + v) (one-mul n)
+
+pub row_size : (i n : ℕ) → (i + 1) * n - i * n ≡ n
+row_size i n = let k = row_next i n in omega arith
 
 -- the cells of group i
 abbrev pub row : {R : Type 0} → ℕ → ℕ → List R → List R
@@ -44,12 +48,20 @@ row_ascends le d m n i E e f h =
     let kt : k < n = omega arith in
     subst (λ v. le v (get_or (row n i E) l d) ≡ true) (sym (row_at d n i k E kt)) (subst (λ v. le (cell d n E i k) v ≡ true) (sym (row_at d n i l E lt)) (f i k l h p lt)))
 
--- A of the group after group i
-pub next_is : {R : Type 0} (d : R) (m n i : ℕ) (E : List R) → i + 1 < m → 2 ≤ n → next_a d (rows m n (i + 1) E) ≡ get_or E ((i + 1) * n) d
-next_is d m n i E h two =
+-- A of group i, and blank past the last group
+pub next_is : {R : Type 0} (d : R) (m n i : ℕ) (E : List R) → length E ≡ m * n → i ≤ m → 2 ≤ n → next_a d (rows m n i E) ≡ get_or E (i * n) d
+next_is d m n i E e h two =
+    ⊎_elim
+    (λ (more : i < m).
     let p : 0 < n = omega arith in
-    let z : (i + 1) * n + 0 ≡ (i + 1) * n = omega arith in
-    ap (next_a d) (rows_more m n (i + 1) E h) ∙ row_at d n (i + 1) 0 E p ∙ ap (λ v. get_or E v d) z
+    let z : i * n + 0 ≡ i * n = omega arith in
+    ap (next_a d) (rows_more m n i E more) ∙ row_at d n i 0 E p ∙ ap (λ v. get_or E v d) z)
+    (λ (past : m ≤ i).
+    let z : m - i ≡ 0 = omega arith in
+    let q : m ≡ i = omega arith in
+    let l : length E ≡ i * n = e ∙ ap (λ v. v * n) q in
+    ap (λ v. next_a d (groups_of v n (drop (i * n) E))) z ∙ sym (get_or_past E (i * n) d (omega arith)))
+    (cases_lt i m)
 
 -- groups and cells
 pub flat_groups : {R : Type 0} (m n : ℕ) (cells : List R) → length cells ≡ m * n → flat (groups_of m n cells) ≡ cells

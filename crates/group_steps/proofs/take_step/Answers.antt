@@ -1,42 +1,29 @@
-use Rattle.std.proofs.Common.{◌≡◌, ◌*◌, ◌<◌, ◌≤◌, length, refl, ◌∙◌, arith, rules}
-use Rattle.std.proofs.lemmas.List.{get_or_read}
-use Rattle.standing.specs.Steps.{flat, take_groups}
-use Rattle.standing.proofs.Rows.{row_end, row_ascends}
-use Rattle.standing.proofs.Turns.{part_ready, take_turn, turns_end}
+use Rattle.std.proofs.Common.{◌≡◌, ◌+◌, ◌-◌, ◌*◌, ◌<◌, ◌≤◌, get_or, take, drop, refl, sym, ap, ◌∙◌, subst, zero-mul, arith}
+use Rattle.standing.specs.Steps.{flat, next_a, take_groups}
+use Rattle.standing.proofs.Rows.{rows, row_ascends, next_is}
+use Rattle.standing.proofs.Turns.{take_turn}
 use Rattle.group_steps.proofs.take_step.Goals as goal
-
-pub bounds-cells-0 : goal.bounds-cells-0
-bounds-cells-0 g c = let r = row_end 0 c.args.shape.groups c.args.shape.size c.args.shape.some in omega arith
-
-pub offset_bounds-cells-i : goal.offset_bounds-cells-i
-offset_bounds-cells-i g c = let r = row_end c.loop-i.i c.args.shape.groups c.args.shape.size c.loop-i-test.true in let h : c.loop-i.i * c.args.shape.size ≤ length c.loop-i.cells = omega arith in search rules
-
-pub slice_bounds-replace_first-end : goal.slice_bounds-replace_first-end
-slice_bounds-replace_first-end g c = let r = row_end c.loop-i.i c.args.shape.groups c.args.shape.size c.loop-i-test.true in omega arith
-
-pub replace_first-requires : goal.replace_first-requires
-replace_first-requires g c =
-    let p = part_ready g.R.Record.order g.R.Record.last c.args.shape.groups c.args.shape.size c.loop-i.i c.args.cells.now c.loop-i.cells (record { some = c.args.shape.some; few = c.args.shape.few; two = c.args.shape.two; small = c.args.shape.small; whole = c.requires.whole }) c.requires.ascends c.loop-i.auto.cells c.loop-i-test.true c.loop-i.invariant.1 in
-    let e = p.0 in
-    record { some = omega arith }
 
 pub loop-i-preserved : goal.loop-i-preserved
 loop-i-preserved g c =
     let le = g.R.Record.order in
     let d = g.R.Record.last in
+    let m = c.args.shape.groups in
+    let n = c.args.shape.size in
     let E = c.args.cells.now in
-    let whole = c.requires.whole in
-    let asc = row_ascends le d c.args.shape.groups c.args.shape.size c.loop-i.i E whole c.requires.ascends c.loop-i-test.true in
-    take_turn le g.met.R.Record.linear d c.args.shape.groups c.args.shape.size c.loop-i.i c.args.shape.two E whole c.loop-i-test.true asc c.loop-i.cells _ c.replace_first.new.cells _ (c.loop-i.auto.cells ∙ whole) c.loop-i.invariant.1 refl c.next_first-next.result c.next_first-next.ensures c.replace_first.ensures.cells c.loop-i.invariant.0
+    let cells = c.loop-i.cells in
+    let i = c.loop-i.i - 1 in
+    let inside : i < m = omega arith in
+    let q : c.loop-i.i ≡ i + 1 = omega arith in
+    let inv = subst (λ v. (take (v * n) cells ≡ take (v * n) E) × (drop (v * n) cells ≡ flat (take_groups le d n (rows m n v E))) × (c.loop-i.next ≡ next_a d (rows m n v E))) q c.loop-i.invariant in
+    let asc = row_ascends le d m n i E c.requires.whole c.requires.ascends inside in
+    take_turn le g.met.R.Record.linear d m n i c.args.shape.two E c.requires.whole inside asc cells _ c.replace_first-next.new.cells c.loop-i.next c.replace_first-next.result (c.loop-i.auto.cells ∙ c.requires.whole) inv.0 inv.1 refl inv.2 c.replace_first-next.ensures.cells (c.replace_first-next.ensures.out d)
 
-pub returns : goal.returns
-returns g c =
-    let le = g.R.Record.order in
-    let d = g.R.Record.last in
-    let e : c.loop-i.i ≡ c.args.shape.groups = omega arith in
-    let r = row_end 0 c.args.shape.groups c.args.shape.size c.args.shape.some in
-    let l : 0 < length c.args.cells.now = omega arith in
-    record {
-      cells = turns_end c.args.shape.groups c.args.shape.size c.loop-i.i c.loop-i.cells _ c.args.cells.now (λ v. flat (take_groups le d c.args.shape.size v)) refl (c.loop-i.auto.cells ∙ c.requires.whole) e c.loop-i.invariant.0;
-      out = get_or_read c.args.cells.now 0 c.index-cells-0.result l c.index-cells-0.is d;
-    }
+pub returns-clause-out : goal.returns-clause-out
+returns-clause-out g c =
+    let m = c.args.shape.groups in
+    let n = c.args.shape.size in
+    let E = c.args.cells.now in
+    let z : c.loop-i.i ≡ 0 = omega arith in
+    let first : c.loop-i.i * n ≡ 0 = ap (λ v. v * n) z ∙ zero-mul n in
+    c.loop-i.invariant.2 ∙ next_is g.R.Record.last m n c.loop-i.i E c.requires.whole (omega arith) c.args.shape.two ∙ ap (λ v. get_or E v g.R.Record.last) first
