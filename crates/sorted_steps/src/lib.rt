@@ -17,9 +17,8 @@ pub fn set_for_last<R: Record>(cells: &mut [R], held: usize, x: R) -> R
     ensures cells { cells.new ≡ put_cells R.Record.order x cells.old }
     ensures out { result ≡ slice_index_or cells.old (length cells.old - 1) R.Record.last }
 {
-    let count = cells.len();
-    let end = if held < count { held + 1 } else { count };
-    replace_last(&mut cells[0..end], x)
+    let end = held.saturating_add(1).min(cells.len());
+    replace_last(&mut cells[..end], x)
 }
 
 // Drops the first record, sets x among the others, and answers what was dropped.
@@ -30,5 +29,5 @@ pub fn set_for_first<R: Record>(cells: &mut [R], held: usize, x: R) -> R
     ensures cells { cells.new ≡ exchange_cells R.Record.order x cells.old }
     ensures out { result ≡ slice_index_or cells.old 0 R.Record.last }
 {
-    replace_first(&mut cells[0..held], x)
+    replace_first(&mut cells[..held], x)
 }

@@ -1,6 +1,5 @@
-use Rattle.std.proofs.Common.{◌≡◌, ◌-◌, ◌++◌, get_or, take, drop, ap, ◌∙◌, arith}
-use Rattle.std.proofs.lemmas.List.{get_or-take}
-use Rattle.records.specs.Sorting.{insert}
+use Rattle.std.proofs.Common.{◌≡◌, ◌++◌, drop, sym, ap, ◌∙◌, arith}
+use Rattle.std.proofs.lemmas.List.{get_or-take, length-take-le}
 use Rattle.standing.proofs.Ascending as ascending
 use Rattle.sorted_steps.proofs.set_for_first.Goals as goal
 
@@ -9,15 +8,19 @@ slice_bounds-replace_first-end g c =
     let w = ascending.within g.R.Record.order g.R.Record.last g.met.R.Record.linear g.met.R.Record.ends c.args.cells.now c.args.held c.requires.ascending c.requires.counted in
     omega arith
 
+pub slice_bounds-replace_first-end-2 : goal.slice_bounds-replace_first-end-2
+slice_bounds-replace_first-end-2 g c =
+    let w = ascending.within g.R.Record.order g.R.Record.last g.met.R.Record.linear g.met.R.Record.ends c.args.cells.now c.args.held c.requires.ascending c.requires.counted in
+    sym (length-take-le c.args.held c.args.cells.now w)
+
 pub returns : goal.returns
 returns g c =
     let le = g.R.Record.order in
     let blank = g.R.Record.last in
     let E = c.args.cells.now in
     let h = c.args.held in
-    let z : h - 0 ≡ h = omega arith in
     let p = c.requires.some in
     record {
-      cells = ap (λ v. v ++ drop (h - 0) E) c.replace_first.ensures.cells ∙ ap (λ k. insert le c.args.x (drop 1 (take k E)) ++ drop k E) z ∙ ascending.first_in le blank g.met.R.Record.linear g.met.R.Record.ends E h c.requires.ascending c.requires.counted c.args.x p;
-      out = c.replace_first.ensures.out blank ∙ ap (λ k. get_or (take k E) 0 blank) z ∙ get_or-take h E 0 blank p;
+      cells = ap (λ v. v ++ drop h E) c.replace_first.ensures.cells ∙ ascending.first_in le blank g.met.R.Record.linear g.met.R.Record.ends E h c.requires.ascending c.requires.counted c.args.x p;
+      out = c.replace_first.ensures.out blank ∙ get_or-take h E 0 blank p;
     }
