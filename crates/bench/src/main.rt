@@ -13,8 +13,7 @@ use shapes::{GroupCells, SortedCells};
 use shows::card::RowCard;
 use sides::SideCell;
 use std::alloc::{AllocError, Global};
-use telegram_groups::TelegramGroups;
-use telegram_sorted::TelegramSorted;
+use telegram_queues::{TelegramGroups, TelegramSorted};
 
 // A call of a queue; the numbers are releases.
 #[derive(Clone, Copy)]

@@ -2,14 +2,14 @@
 ghost use Rattle.std.specs.Prelude.{◌≡◌, [], IfOk};
 ghost use Rattle.listing.specs.Cells.{EmptyTelegrams, EmptyReadings};
 
-use reading_groups::ReadingGroups;
+use reading_queues::ReadingGroups;
 use records::reading::Reading;
 use records::record::Record;
 use records::telegram::Telegram;
 use shapes::GroupCells;
 use sides::SideCell;
 use std::alloc::{AllocError, Global};
-use telegram_groups::TelegramGroups;
+use telegram_queues::TelegramGroups;
 
 // The show's queue: a side cell over 8 groups of 4 telegrams.
 pub(crate) fn telegrams(heap: Global) -> Result<SideCell<Telegram, TelegramGroups>, AllocError>

@@ -5,15 +5,14 @@
 mod tests {
     use queues::fault::QueueFault;
     use queues::queue::{Put, Queue};
-    use reading_groups::ReadingGroups;
+    use reading_queues::ReadingGroups;
     use records::reading::Reading;
     use records::record::Record;
     use records::telegram::Telegram;
     use shapes::{GroupCells, SortedCells};
     use sides::SideCell;
     use std::test::Fail;
-    use telegram_groups::TelegramGroups;
-    use telegram_sorted::TelegramSorted;
+    use telegram_queues::{TelegramGroups, TelegramSorted};
 
     fn telegram(release: u64) -> Telegram {
         Telegram {

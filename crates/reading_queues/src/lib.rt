@@ -1,5 +1,10 @@
-// The queues of readings, both under one name (docs/QUEUES.md).
+// The queues of readings (docs/QUEUES.md).
 #![tactic(auto)]
 
-pub use reading_groups::ReadingGroups;
+use grouped::Groups;
+use records::reading::Reading;
+
 pub use reading_sorted::ReadingSorted;
+
+// A grouped queue of readings.
+pub type ReadingGroups = Groups<Reading>;

@@ -1,5 +1,10 @@
-// The queues of telegrams, both under one name (docs/QUEUES.md).
+// The queues of telegrams (docs/QUEUES.md).
 #![tactic(auto)]
 
-pub use telegram_groups::TelegramGroups;
+use grouped::Groups;
+use records::telegram::Telegram;
+
 pub use telegram_sorted::TelegramSorted;
+
+// A grouped queue of telegrams.
+pub type TelegramGroups = Groups<Telegram>;

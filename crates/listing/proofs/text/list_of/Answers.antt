@@ -4,8 +4,7 @@ use Rattle.records.specs.Telegrams.{stands}
 use Rattle.records.specs.declared.reading.Reading.{Reading}
 use Rattle.records.specs.declared.telegram.Telegram.{Telegram}
 use Rattle.sides.specs.Sides.{side_held}
-use Rattle.telegram_groups.specs.Held as telegrams
-use Rattle.reading_groups.specs.Held as readings
+use Rattle.grouped.specs.Queues.{groups_held}
 use Rattle.shows.specs.Calls.{Limits}
 use Rattle.wire.specs.Lines.{text_of}
 use Rattle.wire.specs.declared.lines.Line.{Line}
@@ -32,8 +31,8 @@ returns c =
     let bytes = c.args.bytes.now in
     let listed = c.in_ok-listed.listed in
     let lines = vec_items listed.lines in
-    let held = side_held stands telegrams.held_by listed.queue in
-    let left = readings.held_by listed.readings in
+    let held = side_held stands groups_held listed.queue in
+    let left = groups_held listed.readings in
     let queue = c.in_ok-queue.ensures in
     let panel = c.in_ok-panel.ensures in
     let lists = c.in_ok-listed.ensures.lists in
