@@ -3,8 +3,10 @@
 
 use grouped::Groups;
 use records::reading::Reading;
-
-pub use reading_sorted::ReadingSorted;
+use sorted::Sorted;
 
 // A grouped queue of readings.
 pub type ReadingGroups = Groups<Reading>;
+
+// A sorted queue of readings.
+pub type ReadingSorted = Sorted<Reading>;

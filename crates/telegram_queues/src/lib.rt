@@ -3,8 +3,10 @@
 
 use grouped::Groups;
 use records::telegram::Telegram;
-
-pub use telegram_sorted::TelegramSorted;
+use sorted::Sorted;
 
 // A grouped queue of telegrams.
 pub type TelegramGroups = Groups<Telegram>;
+
+// A sorted queue of telegrams.
+pub type TelegramSorted = Sorted<Telegram>;

@@ -1,6 +1,0 @@
-use Rattle.std.proofs.Common.{rules}
-use Rattle.reading_sorted.proofs.Same.{exchanges_here}
-use Rattle.reading_sorted.proofs.calls.ReadingSortedQueueReading.exchange.Goals as goal
-
-pub returns : goal.returns
-returns c = record { exchanges = search (rules, exchanges_here); answer = search rules; cells = search rules }
