@@ -14,29 +14,30 @@ module _ (command : Command) where
   abbrev pub NoAdmission : (ℕ → ℕ → ℕ → ℕ → Command) → Type 0
   NoAdmission variant = (at row length handle : ℕ) → command ≡ variant at row length handle → ⊥
 
-pub rigging_unsuited : (rows : List Row) (held : List Telegram) (command : Command)
-    → ((row pace burst : ℕ) → command ≡ SetRow row pace burst → ⊥) → (command ≡ Start → ⊥) → NoReading command → (command ≡ Show → ⊥)
-    → suits (rigging rows held) command ≡ false
-rigging_unsuited rows held (SetRow row pace burst) a b c d = absurd (a row pace burst refl)
-rigging_unsuited rows held Start a b c d = absurd (b refl)
-rigging_unsuited rows held (Admit at row length handle) a b c d = refl
-rigging_unsuited rows held (Release at) a b c d = refl
-rigging_unsuited rows held (Exchange at row length handle) a b c d = refl
-rigging_unsuited rows held (Reading row position target) a b c d = absurd (c row position target refl)
-rigging_unsuited rows held Show a b c d = absurd (d refl)
-rigging_unsuited rows held Close a b c d = refl
+-- what is no command of a stage's own suits it where it suits a show that is closed
+pub rigging_else : (rows : List Row) (held : List Telegram) (s : State) (command : Command)
+    → ((row pace burst : ℕ) → command ≡ SetRow row pace burst → ⊥) → (command ≡ Start → ⊥)
+    → suits (rigging rows held) command ≡ suits (closed s) command
+rigging_else rows held s (SetRow row pace burst) a b = absurd (a row pace burst refl)
+rigging_else rows held s Start a b = absurd (b refl)
+rigging_else rows held s (Admit at row length handle) a b = refl
+rigging_else rows held s (Release at) a b = refl
+rigging_else rows held s (Exchange at row length handle) a b = refl
+rigging_else rows held s (Reading row position target) a b = refl
+rigging_else rows held s Show a b = refl
+rigging_else rows held s Close a b = refl
 
-pub running_unsuited : (s : State) (command : Command)
-    → NoAdmission command Admit → ((at : ℕ) → command ≡ Release at → ⊥) → NoAdmission command Exchange → NoReading command → (command ≡ Show → ⊥) → (command ≡ Close → ⊥)
-    → suits (running s) command ≡ false
-running_unsuited s (SetRow row pace burst) a b c d e f = refl
-running_unsuited s Start a b c d e f = refl
-running_unsuited s (Admit at row length handle) a b c d e f = absurd (a at row length handle refl)
-running_unsuited s (Release at) a b c d e f = absurd (b at refl)
-running_unsuited s (Exchange at row length handle) a b c d e f = absurd (c at row length handle refl)
-running_unsuited s (Reading row position target) a b c d e f = absurd (d row position target refl)
-running_unsuited s Show a b c d e f = absurd (e refl)
-running_unsuited s Close a b c d e f = absurd (f refl)
+pub running_else : (s s' : State) (command : Command)
+    → NoAdmission command Admit → ((at : ℕ) → command ≡ Release at → ⊥) → NoAdmission command Exchange → (command ≡ Close → ⊥)
+    → suits (running s) command ≡ suits (closed s') command
+running_else s s' (SetRow row pace burst) a b c d = refl
+running_else s s' Start a b c d = refl
+running_else s s' (Admit at row length handle) a b c d = absurd (a at row length handle refl)
+running_else s s' (Release at) a b c d = absurd (b at refl)
+running_else s s' (Exchange at row length handle) a b c d = absurd (c at row length handle refl)
+running_else s s' (Reading row position target) a b c d = refl
+running_else s s' Show a b c d = refl
+running_else s s' Close a b c d = absurd (d refl)
 
 pub closed_unsuited : (s : State) (command : Command) → NoReading command → (command ≡ Show → ⊥) → suits (closed s) command ≡ false
 closed_unsuited s (SetRow row pace burst) a b = refl

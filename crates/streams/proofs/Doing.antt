@@ -1,5 +1,6 @@
 -- One command was done, and its lines are printed.
-use Rattle.std.proofs.Common.{◌≡◌, ℕ, false, List, ℤ, Option, Result, sym, refl, ap, ◌∙◌, subst}
+use Rattle.std.proofs.Common.{◌≡◌, ℕ, false, List, ℤ, Ok, Err, Option, Result, sym, refl, ap, subst}
+use Rattle.std.specs.Result.{IsErrAnd}
 use Rattle.records.specs.declared.reading.Reading.{Reading}
 use Rattle.records.specs.declared.telegram.Telegram.{Telegram}
 use Rattle.queues.specs.Queues.{SameLimits}
@@ -18,43 +19,43 @@ use Rattle.runs.specs.Runs.{Phase, rigging, set_refusal, row_set, setting_refuse
 use Rattle.runs.specs.declared.fault.StreamFault.{StreamFault}
 use Rattle.runs.specs.declared.fault.StreamFault.TheVariants.{Stage, Show}
 use Rattle.runs.proofs.Panels.{offers_over, shows_over}
-use Rattle.streams.specs.Printing.{lines_in}
+use Rattle.streams.specs.Printing.{lines_at}
 use Rattle.streams.specs.Stages.{limits_at, rigging_of, Did}
 use Rattle.streams.specs.declared.printed.Printed.{Printed}
 use Rattle.streams.specs.declared.printed.Printed.TheVariants.{Nothing}
 
 -- the line of a fault that was turned into another layer's
-pub refused_as : (printed : Printed) (place : ℕ) (f e : StreamFault) → f ≡ e → lines_in printed ≡ refused_line place f → lines_in printed ≡ refused_line place e
-refused_as printed place f e is prints = prints ∙ ap (refused_line place) is
+pub refused_as : (e : StreamFault) (answer : Result Printed StreamFault) → IsErrAnd answer (λ f. f ≡ e) → (place : ℕ) → lines_at place answer ≡ refused_line place e
+refused_as e (Err f) is place = ap (refused_line place) is
+refused_as e (Ok x) is place = absurd is
 
 -- it does not suit the stage
-pub unsuited_did : (l pl : Limits) (phase : Phase) (readings : List Reading) (command : Command) (place : ℕ) (printed : Printed)
-    → suits phase command ≡ false → lines_in printed ≡ lines_of (place, refuses Stage) → Did l pl phase readings command place printed phase readings
-unsuited_did l pl phase readings command place printed unfit prints = record { event = refuses Stage; does = wrong_stage unfit; prints = prints }
+pub unsuited_did : (l pl : Limits) (phase : Phase) (readings : List Reading) (command : Command) → suits phase command ≡ false → Did l pl phase readings command (Err Stage) phase readings
+unsuited_did l pl phase readings command unfit = record { event = refuses Stage; does = wrong_stage unfit; prints = λ place. refl }
 
 -- a row is set, or the setting is refused
-module _ (row pace burst : ℕ) {Q : Type 0} (held : Q → List Telegram) (s : RiggedShow Q) (place : ℕ) where
+module _ (row pace burst : ℕ) {Q : Type 0} (held : Q → List Telegram) (s : RiggedShow Q) where
   pub set_did : (s' : RiggedShow Q) (card : RowCard) → set_refusal row pace burst ≡ 0 → card.pace ≡ pace → card.burst ≡ burst
       → s'.rows ≡ with_setting s.rows (record { row = row; card = card }) → s'.queue ≡ s.queue
-      → (l pl : Limits) (readings : List Reading) → Did l pl (rigging_of held s) readings (commands.SetRow row pace burst) place Nothing (rigging_of held s') readings
+      → (l pl : Limits) (readings : List Reading) → Did l pl (rigging_of held s) readings (commands.SetRow row pace burst) (Ok Nothing) (rigging_of held s') readings
   set_did s' card none p b rows queue l pl readings =
-      let P : Phase → Type 0 = λ phase. Did l pl (rigging_of held s) readings (commands.SetRow row pace burst) place Nothing phase readings in
+      let P : Phase → Type 0 = λ phase. Did l pl (rigging_of held s) readings (commands.SetRow row pace burst) (Ok Nothing) phase readings in
       let is : rigging_of held s' ≡ rigging (with_setting s.rows (record { row = row; card = card })) (held s.queue) = λ i. rigging (rows i) (held (queue i)) in
-      subst P (sym is) (record { event = sets (record { row = row; card = card }); does = row_set none p b; prints = refl })
+      subst P (sym is) (record { event = sets (record { row = row; card = card }); does = row_set none p b; prints = λ place. refl })
 
-  pub set_refused : (e : ShowFault) (printed : Printed) → number e ≡ set_refusal row pace burst → lines_in printed ≡ lines_of (place, refuses (Show e))
-      → (l pl : Limits) (readings : List Reading) → Did l pl (rigging_of held s) readings (commands.SetRow row pace burst) place printed (rigging_of held s) readings
-  set_refused e printed by prints l pl readings = record { event = refuses (Show e); does = setting_refused by; prints = prints }
+  pub set_refused : (e : ShowFault) (answer : Result Printed StreamFault) → number e ≡ set_refusal row pace burst → ((place : ℕ) → lines_at place answer ≡ refused_line place (Show e))
+      → (l pl : Limits) (readings : List Reading) → Did l pl (rigging_of held s) readings (commands.SetRow row pace burst) answer (rigging_of held s) readings
+  set_refused e answer by prints l pl readings = record { event = refuses (Show e); does = setting_refused by; prints = prints }
 
 -- a reading is offered, or a figure asked for
-module _ {Q : Type 0} (held : Q → List Reading) (room slack : Q → ℕ) (q q' : Q) where
+module _ {Q : Type 0} (held : Q → List Reading) (room slack : Q → ℕ) (q q' : Q) (answer : Result Printed StreamFault) where
   pub same_limits : SameLimits held room slack q q' → limits_at room slack q' ≡ limits_at room slack q
   same_limits s = λ i. record { capacity = s.room_stays i; slack = s.slack_stays i }
 
-  pub offer_did : (x : Reading) (r : Result (Option Reading) PanelFault) (place : ℕ) (printed : Printed) → Offers held room slack q x r q' → lines_in printed ≡ lines_of (place, offered r)
-      → (l : Limits) (phase : Phase) → Did l (limits_at room slack q) phase (held q) (commands.Reading x.row x.position x.target) place printed phase (held q')
-  offer_did x r place printed t prints l phase = record { event = offered r; does = reading_offered x r refl refl refl (offers_over held room slack q q' x r t); prints = prints }
+  pub offer_did : (x : Reading) (r : Result (Option Reading) PanelFault) → Offers held room slack q x r q' → ((place : ℕ) → lines_at place answer ≡ lines_of (place, offered r))
+      → (l : Limits) (phase : Phase) → Did l (limits_at room slack q) phase (held q) (commands.Reading x.row x.position x.target) answer phase (held q')
+  offer_did x r t prints l phase = record { event = offered r; does = reading_offered x r refl refl refl (offers_over held room slack q q' x r t); prints = prints }
 
-  pub show_did : (r : Result ℤ PanelFault) (place : ℕ) (printed : Printed) → Shows held room slack q r q' → lines_in printed ≡ lines_of (place, shown r)
-      → (l : Limits) (phase : Phase) → Did l (limits_at room slack q) phase (held q) commands.Show place printed phase (held q')
-  show_did r place printed t prints l phase = record { event = shown r; does = figure_asked r (shows_over held room slack q q' r t); prints = prints }
+  pub show_did : (r : Result ℤ PanelFault) → Shows held room slack q r q' → ((place : ℕ) → lines_at place answer ≡ lines_of (place, shown r))
+      → (l : Limits) (phase : Phase) → Did l (limits_at room slack q) phase (held q) commands.Show answer phase (held q')
+  show_did r t prints l phase = record { event = shown r; does = figure_asked r (shows_over held room slack q q' r t); prints = prints }

@@ -1,4 +1,3 @@
 pub mod Doing
 pub mod Going
-pub mod Placing
-pub mod Stopping
+pub mod Ending

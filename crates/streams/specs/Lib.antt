@@ -1,4 +1,4 @@
 pub mod Printing
 pub mod Stages
-pub mod Halting
 pub mod Places
+pub mod Playing

@@ -1,5 +1,5 @@
 // The commands of a show that runs.
-ghost use Rattle.std.specs.Prelude.{◌≡◌, List, ◌∷◌};
+ghost use Rattle.std.specs.Prelude.{◌≡◌, List, ◌∷◌, Some};
 ghost use Rattle.records.specs.declared.reading.Reading.{Reading as AReading};
 ghost use Rattle.shows.specs.Calls.{Limits};
 ghost use Rattle.cabinet.specs.States.{state_of, limits_of};
@@ -8,16 +8,16 @@ ghost use Rattle.wire.specs.declared.lines.Line.TheVariants.{Departed};
 ghost use Rattle.runs.specs.Events.{accepted_line, displaced_line};
 ghost use Rattle.runs.specs.Runs.{running};
 ghost use Rattle.streams.specs.Printing.{lines_in};
-ghost use Rattle.streams.specs.Stages.{limits_at, Did, Handles};
+ghost use Rattle.streams.specs.Stages.{Did};
 
-use crate::figures::{offer, show_figure};
-use crate::printed::{Printed, refusal};
+use crate::figures::to_panel;
+use crate::printed::{Answer, Printed};
+use crate::stage::Stage;
 use cabinet::running::RunningShow;
 use panels::panel::Panel;
 use queues::queue::Queue;
 use records::reading::Reading;
 use records::telegram::Telegram;
-use runs::fault::StreamFault;
 use shows::answer::Admission;
 use wire::commands::Command;
 use wire::lines::Line;
@@ -67,25 +67,20 @@ fn admit<Q: Queue<Telegram>>(
     row: u8,
     length: u16,
     handle: u32,
-    place: u32,
-) -> Printed
-    ensures did { (pl : Limits) (readings : List AReading) → Did (limits_of Q.Queue.room Q.Queue.slack show.old) pl (running (state_of Q.Queue.held show.old)) readings (commands.Admit at row length handle) place result (running (state_of Q.Queue.held show.new)) readings }
+) -> Answer
+    ensures did { (pl : Limits) (readings : List AReading) → Did (limits_of Q.Queue.room Q.Queue.slack show.old) pl (running (state_of Q.Queue.held show.old)) readings (commands.Admit at row length handle) result (running (state_of Q.Queue.held show.new)) readings }
     ensures limits { limits_of Q.Queue.room Q.Queue.slack show.new ≡ limits_of Q.Queue.room Q.Queue.slack show.old }
 {
-    match show.admit(at, row, length, handle) {
-        Ok(admission) => admission_lines(admission),
-        Err(fault) => refusal(StreamFault::from(fault), place),
-    }
+    let admission = show.admit(at, row, length, handle)?;
+    Ok(admission_lines(admission))
 }
 
-fn release<Q: Queue<Telegram>>(show: &mut RunningShow<Q>, at: u64, place: u32) -> Printed
-    ensures did { (pl : Limits) (readings : List AReading) → Did (limits_of Q.Queue.room Q.Queue.slack show.old) pl (running (state_of Q.Queue.held show.old)) readings (commands.Release at) place result (running (state_of Q.Queue.held show.new)) readings }
+fn release<Q: Queue<Telegram>>(show: &mut RunningShow<Q>, at: u64) -> Answer
+    ensures did { (pl : Limits) (readings : List AReading) → Did (limits_of Q.Queue.room Q.Queue.slack show.old) pl (running (state_of Q.Queue.held show.old)) readings (commands.Release at) result (running (state_of Q.Queue.held show.new)) readings }
     ensures limits { limits_of Q.Queue.room Q.Queue.slack show.new ≡ limits_of Q.Queue.room Q.Queue.slack show.old }
 {
-    match show.release(at) {
-        Ok(telegram) => Printed::One(departed(telegram, at)),
-        Err(fault) => refusal(StreamFault::from(fault), place),
-    }
+    let telegram = show.release(at)?;
+    Ok(Printed::One(departed(telegram, at)))
 }
 
 fn exchange<Q: Queue<Telegram>>(
@@ -94,59 +89,44 @@ fn exchange<Q: Queue<Telegram>>(
     row: u8,
     length: u16,
     handle: u32,
-    place: u32,
-) -> Printed
-    ensures did { (pl : Limits) (readings : List AReading) → Did (limits_of Q.Queue.room Q.Queue.slack show.old) pl (running (state_of Q.Queue.held show.old)) readings (commands.Exchange at row length handle) place result (running (state_of Q.Queue.held show.new)) readings }
+) -> Answer
+    ensures did { (pl : Limits) (readings : List AReading) → Did (limits_of Q.Queue.room Q.Queue.slack show.old) pl (running (state_of Q.Queue.held show.old)) readings (commands.Exchange at row length handle) result (running (state_of Q.Queue.held show.new)) readings }
     ensures limits { limits_of Q.Queue.room Q.Queue.slack show.new ≡ limits_of Q.Queue.room Q.Queue.slack show.old }
 {
-    match show.exchange(at, row, length, handle) {
-        Ok(exchange) => {
-            let departed = departed(exchange.departed, at);
-            Printed::Two(departed, accepted(exchange.telegram))
-        }
-        Err(fault) => refusal(StreamFault::from(fault), place),
-    }
+    let exchange = show.exchange(at, row, length, handle)?;
+    let departed = departed(exchange.departed, at);
+    Ok(Printed::Two(departed, accepted(exchange.telegram)))
 }
 
-// One command to a running show; none where it is the close.
-pub(crate) fn call<Q: Queue<Telegram>, P: Queue<Reading>>(
-    show: &mut RunningShow<Q>,
-    panel: &mut Panel<P>,
-    command: Command,
-    place: u32,
-) -> Option<Printed>
-    ensures handles { Handles commands.Close (limits_of Q.Queue.room Q.Queue.slack show.old) (limits_at P.Queue.room P.Queue.slack panel.old.queue) (running (state_of Q.Queue.held show.old)) (P.Queue.held panel.old.queue) command place result (running (state_of Q.Queue.held show.new)) (P.Queue.held panel.new.queue) }
-    ensures limits { limits_of Q.Queue.room Q.Queue.slack show.new ≡ limits_of Q.Queue.room Q.Queue.slack show.old }
-    ensures panel { limits_at P.Queue.room P.Queue.slack panel.new.queue ≡ limits_at P.Queue.room P.Queue.slack panel.old.queue }
-{
-    match command {
-        Command::Admit {
-            at,
-            row,
-            length,
-            handle,
-        } => Some(admit(show, at, row, length, handle, place)),
-        Command::Release { at } => Some(release(show, at, place)),
-        Command::Exchange {
-            at,
-            row,
-            length,
-            handle,
-        } => Some(exchange(show, at, row, length, handle, place)),
-        Command::Close => None,
-        Command::Reading {
-            row,
-            position,
-            target,
-        } => {
-            let reading = Reading {
+// The close ends this stage.
+impl<Q: Queue<Telegram>> Stage for RunningShow<Q> {
+    ghost phase = { λ show s. running (state_of Q.Queue.held show) };
+
+    ghost limits = { limits_of Q.Queue.room Q.Queue.slack };
+
+    ghost ending = { Some commands.Close };
+
+    fn handle<P: Queue<Reading>>(
+        &mut self,
+        panel: &mut Panel<P>,
+        command: Command,
+    ) -> Option<Answer> {
+        match command {
+            Command::Admit {
+                at,
                 row,
-                position,
-                target,
-            };
-            Some(offer(panel, reading, place))
+                length,
+                handle,
+            } => Some(admit(self, at, row, length, handle)),
+            Command::Release { at } => Some(release(self, at)),
+            Command::Exchange {
+                at,
+                row,
+                length,
+                handle,
+            } => Some(exchange(self, at, row, length, handle)),
+            Command::Close => None,
+            other => Some(to_panel(panel, other)),
         }
-        Command::Show => Some(show_figure(panel, place)),
-        _ => Some(refusal(StreamFault::Stage, place)),
     }
 }

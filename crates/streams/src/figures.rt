@@ -2,10 +2,10 @@
 ghost use Rattle.std.specs.Prelude.{◌≡◌};
 ghost use Rattle.shows.specs.Calls.{Limits, State};
 ghost use Rattle.wire.specs.declared.commands.Command.TheVariants as commands;
-ghost use Rattle.runs.specs.Runs.{Phase, closed};
+ghost use Rattle.runs.specs.Runs.{Phase, closed, suits};
 ghost use Rattle.streams.specs.Stages.{limits_at, Did};
 
-use crate::printed::{Printed, refusal};
+use crate::printed::{Answer, Printed};
 use panels::panel::Panel;
 use queues::queue::Queue;
 use records::reading::Reading;
@@ -14,38 +14,27 @@ use wire::commands::Command;
 use wire::lines::Line;
 
 // Offers a reading. What left the panel for it is not listed.
-pub(crate) fn offer<P: Queue<Reading>>(
-    panel: &mut Panel<P>,
-    reading: Reading,
-    place: u32,
-) -> Printed
-    ensures did { (l : Limits) (phase : Phase) → Did l (limits_at P.Queue.room P.Queue.slack panel.old.queue) phase (P.Queue.held panel.old.queue) (commands.Reading reading.row reading.position reading.target) place result phase (P.Queue.held panel.new.queue) }
+fn offer<P: Queue<Reading>>(panel: &mut Panel<P>, reading: Reading) -> Answer
+    ensures did { (l : Limits) (phase : Phase) → Did l (limits_at P.Queue.room P.Queue.slack panel.old.queue) phase (P.Queue.held panel.old.queue) (commands.Reading reading.row reading.position reading.target) result phase (P.Queue.held panel.new.queue) }
     ensures limits { limits_at P.Queue.room P.Queue.slack panel.new.queue ≡ limits_at P.Queue.room P.Queue.slack panel.old.queue }
 {
-    match panel.offer(reading) {
-        Ok(_left) => Printed::Nothing,
-        Err(fault) => refusal(StreamFault::from(fault), place),
-    }
+    let _left = panel.offer(reading)?;
+    Ok(Printed::Nothing)
 }
 
 // Prints the figure of the first reading.
-pub(crate) fn show_figure<P: Queue<Reading>>(panel: &mut Panel<P>, place: u32) -> Printed
-    ensures did { (l : Limits) (phase : Phase) → Did l (limits_at P.Queue.room P.Queue.slack panel.old.queue) phase (P.Queue.held panel.old.queue) commands.Show place result phase (P.Queue.held panel.new.queue) }
+fn show_figure<P: Queue<Reading>>(panel: &mut Panel<P>) -> Answer
+    ensures did { (l : Limits) (phase : Phase) → Did l (limits_at P.Queue.room P.Queue.slack panel.old.queue) phase (P.Queue.held panel.old.queue) commands.Show result phase (P.Queue.held panel.new.queue) }
     ensures limits { limits_at P.Queue.room P.Queue.slack panel.new.queue ≡ limits_at P.Queue.room P.Queue.slack panel.old.queue }
 {
-    match panel.show() {
-        Ok(figure) => Printed::One(Line::Figure(figure)),
-        Err(fault) => refusal(StreamFault::from(fault), place),
-    }
+    let figure = panel.show()?;
+    Ok(Printed::One(Line::Figure(figure)))
 }
 
-// One command after the close of the show.
-pub(crate) fn outlast<P: Queue<Reading>>(
-    panel: &mut Panel<P>,
-    command: Command,
-    place: u32,
-) -> Printed
-    ensures did { (l : Limits) (s : State) → Did l (limits_at P.Queue.room P.Queue.slack panel.old.queue) (closed s) (P.Queue.held panel.old.queue) command place result (closed s) (P.Queue.held panel.new.queue) }
+// One command to the panel. In a stage that has no use of its own for it, any other does not suit the
+// stage.
+pub(crate) fn to_panel<P: Queue<Reading>>(panel: &mut Panel<P>, command: Command) -> Answer
+    ensures did { (l : Limits) (phase : Phase) (s : State) → suits phase command ≡ suits (closed s) command → Did l (limits_at P.Queue.room P.Queue.slack panel.old.queue) phase (P.Queue.held panel.old.queue) command result phase (P.Queue.held panel.new.queue) }
     ensures limits { limits_at P.Queue.room P.Queue.slack panel.new.queue ≡ limits_at P.Queue.room P.Queue.slack panel.old.queue }
 {
     match command {
@@ -59,9 +48,9 @@ pub(crate) fn outlast<P: Queue<Reading>>(
                 position,
                 target,
             };
-            offer(panel, reading, place)
+            offer(panel, reading)
         }
-        Command::Show => show_figure(panel, place),
-        _ => refusal(StreamFault::Stage, place),
+        Command::Show => show_figure(panel),
+        _ => Err(StreamFault::Stage),
     }
 }

@@ -3,12 +3,10 @@
 
 mod calls;
 mod closed;
-mod ended;
 mod figures;
 mod play;
+mod playing;
 mod printed;
-mod reading;
-mod rigging;
 pub mod run;
-mod running;
 mod settings;
+mod stage;

@@ -4,7 +4,7 @@ ghost use Rattle.streams.specs.Stages.{limits_at};
 
 use super::Listed;
 use crate::play::play;
-use panels::panel::Panel;
+use crate::playing::Playing;
 use queues::queue::Queue;
 use records::reading::Reading;
 use records::telegram::Telegram;
@@ -43,14 +43,6 @@ pub fn run<Q: Queue<Telegram> + Drop, P: Queue<Reading> + Drop>(
             readings,
         });
     }
-    let mut lines = Vec::with_capacity(heap, 2 * bytes.len() + 3)?;
-    lines.push_reserved(Line::Heading);
-    let mut panel = Panel::new(readings);
-    let queue = play(bytes, queue, &mut panel, &mut lines);
-    let readings = panel.into_queue();
-    Ok(Listed {
-        lines,
-        queue,
-        readings,
-    })
+    let playing = Playing::new(heap, bytes, readings)?;
+    Ok(play(playing, queue))
 }

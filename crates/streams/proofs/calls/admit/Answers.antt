@@ -2,23 +2,18 @@ use Rattle.std.proofs.Common.{Ok, Err}
 use Rattle.shows.specs.Histories.{admit}
 use Rattle.runs.specs.Events.{calls}
 use Rattle.runs.specs.Runs.{admit_called}
+use Rattle.runs.specs.declared.fault.StreamFault.TheVariants.{Show}
 use Rattle.streams.proofs.Doing.{refused_as}
 use Rattle.streams.proofs.calls.admit.Goals as goal
 
-pub returns-in-Ok : goal.returns-in-Ok
-returns-in-Ok g c =
+pub returns-in_err-admission-clause-did : goal.returns-in_err-admission-clause-did
+returns-in_err-admission-clause-did g c =
     let a = c.args in
-    let t = c.in-Ok.ensures in
-    record {
-      did = λ pl readings. record { event = calls (admit a.at a.row a.length a.handle (Ok c.in-Ok.admission)); does = admit_called t.step; prints = c.admission_lines.ensures };
-      limits = t.limits;
-    }
+    let h = c.in_err-admission in
+    λ pl readings. record { event = calls (admit a.at a.row a.length a.handle (Err h.field-0.0)); does = admit_called h.ensures.step; prints = refused_as (Show h.field-0.0) c.from_residual.result c.from_residual.ensures.1 }
 
-pub returns-in-Err : goal.returns-in-Err
-returns-in-Err g c =
+pub returns-clause-did : goal.returns-clause-did
+returns-clause-did g c =
     let a = c.args in
-    let t = c.in-Err.ensures in
-    record {
-      did = λ pl readings. record { event = calls (admit a.at a.row a.length a.handle (Err c.in-Err.fault)); does = admit_called t.step; prints = refused_as _ _ _ _ c.from.ensures c.refusal.ensures };
-      limits = t.limits;
-    }
+    let h = c.in_ok-admission in
+    λ pl readings. record { event = calls (admit a.at a.row a.length a.handle (Ok h.admission)); does = admit_called h.ensures.step; prints = λ place. c.admission_lines.ensures }

@@ -2,24 +2,18 @@ use Rattle.std.proofs.Common.{[], ◌∷◌, Ok, Err}
 use Rattle.shows.specs.Histories.{exchange}
 use Rattle.runs.specs.Events.{calls}
 use Rattle.runs.specs.Runs.{exchange_called}
+use Rattle.runs.specs.declared.fault.StreamFault.TheVariants.{Show}
 use Rattle.streams.proofs.Doing.{refused_as}
 use Rattle.streams.proofs.calls.exchange.Goals as goal
 
-pub returns-in-Ok : goal.returns-in-Ok
-returns-in-Ok g c =
+pub returns-in_err-exchange-clause-did : goal.returns-in_err-exchange-clause-did
+returns-in_err-exchange-clause-did g c =
     let a = c.args in
-    let t = c.in-Ok.ensures in
-    let x = c.in-Ok.exchange in
-    record {
-      did = λ pl readings. record { event = calls (exchange a.at a.row a.length a.handle (Ok x)); does = exchange_called t.step; prints = λ i. c.departed-departed.ensures i ∷ c.accepted.ensures i ∷ [] };
-      limits = t.limits;
-    }
+    let h = c.in_err-exchange in
+    λ pl readings. record { event = calls (exchange a.at a.row a.length a.handle (Err h.field-0.0)); does = exchange_called h.ensures.step; prints = refused_as (Show h.field-0.0) c.from_residual.result c.from_residual.ensures.1 }
 
-pub returns-in-Err : goal.returns-in-Err
-returns-in-Err g c =
+pub returns-clause-did : goal.returns-clause-did
+returns-clause-did g c =
     let a = c.args in
-    let t = c.in-Err.ensures in
-    record {
-      did = λ pl readings. record { event = calls (exchange a.at a.row a.length a.handle (Err c.in-Err.fault)); does = exchange_called t.step; prints = refused_as _ _ _ _ c.from.ensures c.refusal.ensures };
-      limits = t.limits;
-    }
+    let h = c.in_ok-exchange in
+    λ pl readings. record { event = calls (exchange a.at a.row a.length a.handle (Ok h.exchange)); does = exchange_called h.ensures.step; prints = λ place i. c.departed-departed.ensures i ∷ c.accepted.ensures i ∷ [] }

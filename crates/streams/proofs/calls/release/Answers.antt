@@ -3,21 +3,16 @@ use Rattle.shows.specs.Histories.{release}
 use Rattle.wire.specs.declared.lines.Line.{Line}
 use Rattle.runs.specs.Events.{calls}
 use Rattle.runs.specs.Runs.{release_called}
+use Rattle.runs.specs.declared.fault.StreamFault.TheVariants.{Show}
 use Rattle.streams.proofs.Doing.{refused_as}
 use Rattle.streams.proofs.calls.release.Goals as goal
 
-pub returns-in-Ok : goal.returns-in-Ok
-returns-in-Ok g c =
-    let t = c.in-Ok.ensures in
-    record {
-      did = λ pl readings. record { event = calls (release c.args.at (Ok c.in-Ok.telegram)); does = release_called t.step; prints = ap (λ (v : Line). v ∷ []) c.departed.ensures };
-      limits = t.limits;
-    }
+pub returns-in_err-telegram-clause-did : goal.returns-in_err-telegram-clause-did
+returns-in_err-telegram-clause-did g c =
+    let h = c.in_err-telegram in
+    λ pl readings. record { event = calls (release c.args.at (Err h.field-0.0)); does = release_called h.ensures.step; prints = refused_as (Show h.field-0.0) c.from_residual.result c.from_residual.ensures.1 }
 
-pub returns-in-Err : goal.returns-in-Err
-returns-in-Err g c =
-    let t = c.in-Err.ensures in
-    record {
-      did = λ pl readings. record { event = calls (release c.args.at (Err c.in-Err.fault)); does = release_called t.step; prints = refused_as _ _ _ _ c.from.ensures c.refusal.ensures };
-      limits = t.limits;
-    }
+pub returns-clause-did : goal.returns-clause-did
+returns-clause-did g c =
+    let h = c.in_ok-telegram in
+    λ pl readings. record { event = calls (release c.args.at (Ok h.telegram)); does = release_called h.ensures.step; prints = λ place. ap (λ (v : Line). v ∷ []) c.departed.ensures }

@@ -1,29 +1,16 @@
 use Rattle.std.proofs.Common.{Ok, Err, refl}
-use Rattle.runs.proofs.Panels.{offer_limits}
-use Rattle.streams.specs.declared.printed.Printed.TheVariants.{Nothing}
-use Rattle.streams.proofs.Doing.{refused_as, offer_did, same_limits}
+use Rattle.runs.specs.declared.fault.StreamFault.TheVariants.{Panel}
+use Rattle.streams.proofs.Doing.{refused_as, offer_did}
 use Rattle.streams.proofs.figures.offer.Goals as goal
 
-pub returns-in-Ok : goal.returns-in-Ok
-returns-in-Ok g c =
+pub returns-in_err-_left-clause-did : goal.returns-in_err-_left-clause-did
+returns-in_err-_left-clause-did g c =
     let m = g.P.Queue in
-    let q = c.args.panel.now.queue in
-    let q' = c.offer.new.self.queue in
-    let r = Ok c.in-Ok._left in
-    let t = c.in-Ok.ensures.offers in
-    record {
-      did = offer_did m.held m.room m.slack q q' c.args.reading r c.args.place Nothing t refl;
-      limits = same_limits m.held m.room m.slack q q' (offer_limits m.held m.room m.slack q q' c.args.reading r t);
-    }
+    let h = c.in_err-_left in
+    offer_did m.held m.room m.slack c.args.panel.now.queue c.offer.new.self.queue _ c.args.reading (Err h.field-0.0) h.ensures.offers (refused_as (Panel h.field-0.0) c.from_residual.result c.from_residual.ensures.1)
 
-pub returns-in-Err : goal.returns-in-Err
-returns-in-Err g c =
+pub returns-clause-did : goal.returns-clause-did
+returns-clause-did g c =
     let m = g.P.Queue in
-    let q = c.args.panel.now.queue in
-    let q' = c.offer.new.self.queue in
-    let r = Err c.in-Err.fault in
-    let t = c.in-Err.ensures.offers in
-    record {
-      did = offer_did m.held m.room m.slack q q' c.args.reading r c.args.place c.refusal.result t (refused_as _ _ _ _ c.from.ensures c.refusal.ensures);
-      limits = same_limits m.held m.room m.slack q q' (offer_limits m.held m.room m.slack q q' c.args.reading r t);
-    }
+    let h = c.in_ok-_left in
+    offer_did m.held m.room m.slack c.args.panel.now.queue c.offer.new.self.queue _ c.args.reading (Ok h._left) h.ensures.offers (λ place. refl)

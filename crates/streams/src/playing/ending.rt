@@ -1,0 +1,37 @@
+ghost use Rattle.std.specs.Prelude.{◌≡◌, ◌++◌};
+ghost use Rattle.streams.specs.Playing.{last_lines};
+
+use super::Playing;
+use crate::printed::print;
+use crate::run::Listed;
+use queues::queue::Queue;
+use records::reading::Reading;
+use runs::fault::StreamFault;
+use wire::faults::WireFault;
+
+impl<'a, P: Queue<Reading>> Playing<'a, P> {
+    // What the run leaves at its end, before bytes that are no command or where no byte is left. The bytes
+    // are tested before the stage: a command that is cut off is so in every stage.
+    pub(crate) fn finish<Q>(self, fault: Option<WireFault>, queue: Q) -> Listed<Q, P>
+        ensures lines { result.lines.items ≡ self.entry.lines.items ++ last_lines self.entry.place fault }
+        ensures queue { result.queue ≡ queue }
+        ensures readings { result.readings ≡ self.entry.panel.queue }
+    {
+        let Playing {
+            bytes: _bytes,
+            place,
+            panel,
+            mut lines,
+        } = self;
+        if let Some(fault) = fault {
+            let refusal = StreamFault::from(fault);
+            print(&mut lines, place as u32, Err(refusal));
+        }
+        let readings = panel.into_queue();
+        Listed {
+            lines,
+            queue,
+            readings,
+        }
+    }
+}

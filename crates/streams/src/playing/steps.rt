@@ -1,0 +1,32 @@
+ghost use Rattle.std.specs.Prelude.{◌≡◌, ◌+◌, ◌++◌, Some, Ok};
+ghost use Rattle.streams.specs.Places.{StandsAt};
+ghost use Rattle.streams.specs.Printing.{lines_at};
+
+use super::Playing;
+use crate::printed::{Answer, print};
+use commands::read;
+use queues::queue::Queue;
+use records::reading::Reading;
+use wire::commands::Found;
+use wire::faults::WireFault;
+
+impl<'a, P: Queue<Reading>> Playing<'a, P> {
+    // What stands where the stream is played to.
+    pub(super) fn at(&self) -> Result<Option<Found>, WireFault>
+        ensures { StandsAt self.now.bytes.now self.now.place result }
+    {
+        read(&self.bytes[self.place..])
+    }
+
+    // Lists what the command that stands here answers, and goes on past it.
+    pub(crate) fn go_on(&mut self, found: Found, answer: Answer)
+        requires stands { StandsAt self.old.bytes.now self.old.place (Ok (Some found)) }
+        ensures bytes { self.new.bytes ≡ self.old.bytes }
+        ensures place { self.new.place ≡ self.old.place + found.taken }
+        ensures panel { self.new.panel ≡ self.old.panel }
+        ensures lines { self.new.lines.items ≡ self.old.lines.items ++ lines_at self.old.place answer }
+    {
+        print(&mut self.lines, self.place as u32, answer);
+        self.place += found.taken;
+    }
+}
