@@ -27,11 +27,6 @@ module _ (l pl : Limits) (bytes : List ℕ) (held : List Telegram) (readings : L
     listed = grows ∙ ap (λ v. v ++ lines_of (place, event)) r.listed ∙ flat_map_more lines_of (Heading ∷ []) r.events (place, event);
   }
 
--- a run stands where it stood
-pub stood : (l pl : Limits) (bytes : List ℕ) (held : List Telegram) (readings : List Reading) (place : ℕ) (phase phase' : Phase) (now now' : List Reading) (lines : List Line)
-    → phase ≡ phase' → now ≡ now' → Reached l pl bytes held readings place phase now lines → Reached l pl bytes held readings place phase' now' lines
-stood l pl bytes held readings place phase phase' now now' lines p q r = subst (λ v. Reached l pl bytes held readings place v now' lines) p (subst (λ v. Reached l pl bytes held readings place phase v lines) q r)
-
 -- a run that stops has told its history
 module _ (l pl : Limits) (bytes : List ℕ) (held : List Telegram) (readings : List Reading) (phase : Phase) (now : List Reading) (lines lines' : List Line) (held' : List Telegram) (place : ℕ) (r : Reached l pl bytes held readings place phase now lines) (holds : held' ≡ held_in phase) where
   pub ends : (last : List (ℕ × Event)) → Stops bytes place last → lines' ≡ Heading ∷ flat_map lines_of (r.events ++ last) → Played l pl bytes held readings lines' held' now
@@ -55,13 +50,3 @@ pub first_reached : (l pl : Limits) (bytes : List ℕ) (held : List Telegram) (r
     → Reached l pl bytes held readings 0 phase readings lines
 first_reached l pl bytes held readings phase lines is listed =
     subst (λ v. Reached l pl bytes held readings 0 v readings lines) (sym is) (record { events = []; ran = at_first; listed = listed })
-
--- limits that are the same
-pub reached_under : {pl pl' : Limits} (l : Limits) (bytes : List ℕ) (held : List Telegram) (readings : List Reading) (place : ℕ) (phase : Phase) (now : List Reading) (lines : List Line) → pl ≡ pl'
-    → Reached l pl bytes held readings place phase now lines → Reached l pl' bytes held readings place phase now lines
-reached_under l bytes held readings place phase now lines q r = subst (λ v. Reached l v bytes held readings place phase now lines) q r
-
-pub played_under : {l l' pl pl' : Limits} (bytes : List ℕ) (held : List Telegram) (readings : List Reading) (lines : List Line) (held' : List Telegram) (readings' : List Reading) → l ≡ l' → pl ≡ pl'
-    → Played l pl bytes held readings lines held' readings' → Played l' pl' bytes held readings lines held' readings'
-played_under {l} {l'} {pl} {pl'} bytes held readings lines held' readings' p q r =
-    subst (λ v. Played v pl' bytes held readings lines held' readings') p (subst (λ v. Played l v bytes held readings lines held' readings') q r)

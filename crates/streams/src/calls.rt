@@ -45,19 +45,21 @@ fn departed(telegram: Telegram, at: u64) -> Line
 }
 
 // The lines of an accepted admit: its telegram, then the one that it displaced.
-fn admission_lines(admission: Admission) -> Printed
-    ensures { lines_in result ≡ accepted_line admission.telegram ∷ displaced_line admission.displaced }
-{
-    let line = accepted(admission.telegram);
-    match admission.displaced {
-        None => Printed::One(line),
-        Some(other) => Printed::Two(
-            line,
-            Line::Displaced {
-                number: other.number,
-                row: other.row,
-            },
-        ),
+impl From<Admission> for Printed {
+    ghost from_gives = { λ admission printed. lines_in printed ≡ accepted_line admission.telegram ∷ displaced_line admission.displaced };
+
+    fn from(admission: Admission) -> Printed {
+        let line = accepted(admission.telegram);
+        match admission.displaced {
+            None => Printed::One(line),
+            Some(other) => Printed::Two(
+                line,
+                Line::Displaced {
+                    number: other.number,
+                    row: other.row,
+                },
+            ),
+        }
     }
 }
 
@@ -72,7 +74,7 @@ fn admit<Q: Queue<Telegram>>(
     ensures limits { limits_of Q.Queue.room Q.Queue.slack show.new ≡ limits_of Q.Queue.room Q.Queue.slack show.old }
 {
     let admission = show.admit(at, row, length, handle)?;
-    Ok(admission_lines(admission))
+    Ok(Printed::from(admission))
 }
 
 fn release<Q: Queue<Telegram>>(show: &mut RunningShow<Q>, at: u64) -> Answer

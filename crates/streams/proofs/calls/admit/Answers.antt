@@ -16,4 +16,4 @@ pub returns-clause-did : goal.returns-clause-did
 returns-clause-did g c =
     let a = c.args in
     let h = c.in_ok-admission in
-    λ pl readings. record { event = calls (admit a.at a.row a.length a.handle (Ok h.admission)); does = admit_called h.ensures.step; prints = λ place. c.admission_lines.ensures }
+    λ pl readings. record { event = calls (admit a.at a.row a.length a.handle (Ok h.admission)); does = admit_called h.ensures.step; prints = λ place. c.from.ensures }
