@@ -38,7 +38,7 @@ module _ {Q P : Type 0} (held : Q → List Telegram) (room slack : Q → ℕ) (h
           ends l pl y.bytes.now h rs (phase' s) (held-panel y.panel.queue) y.lines.items r.lines.items (held r.queue) y.place at holds [] (through halts) (listed ∙ append-nil y.lines.items ∙ at.listed ∙ ap (λ v. Heading ∷ flat_map lines_of v) (sym (append-nil at.events)))
       ended_played (Some e) halts listed h rs at =
           let last : ℕ × Event = (y.place, refuses (Wire e)) in
-          ends l pl y.bytes.now h rs (phase' s) (held-panel y.panel.queue) y.lines.items r.lines.items (held r.queue) y.place at holds (last ∷ []) (faulted halts) (listed ∙ ap (λ v. v ++ lines_of last) at.listed ∙ flat_map_more lines_of (Heading ∷ []) at.events last)
+          ends l pl y.bytes.now h rs (phase' s) (held-panel y.panel.queue) y.lines.items r.lines.items (held r.queue) y.place at holds (last ∷ []) (faulted halts.0) (listed ∙ ap (λ v. v ++ lines_of last) at.listed ∙ flat_map_more lines_of (Heading ∷ []) at.events last)
 
       pub ends_here : (fault : Option WireFault) → Halts ending y.bytes.now y.place (Err fault) → r.lines.items ≡ y.lines.items ++ last_lines y.place fault
           → limits_at room slack r.queue ≡ l → Leaves held room slack held-panel room-panel slack-panel l x (phase s) r
