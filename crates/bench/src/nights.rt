@@ -5,6 +5,7 @@ use records::telegram::Telegram;
 use shows::answer::{Admission, Report};
 use shows::card::RowCard;
 use shows::fault::ShowFault;
+use shows::request::Request;
 use std::alloc::{AllocError, Global};
 
 // What the calls of an evening answered. A show cannot be let go, so it is closed before anything is
@@ -21,7 +22,17 @@ pub(crate) fn play<Q: Queue<Telegram> + Drop>(card: RowCard, queue: Q) -> Evenin
     let mut rigged = RiggedShow::new(queue);
     let _ = rigged.set(5, card);
     let mut show = rigged.start();
-    let admits = [show.admit(1000, 5, 100, 7), show.admit(1000, 5, 64, 8)];
+    let first = Request {
+        row: 5,
+        length: 100,
+        handle: 7,
+    };
+    let second = Request {
+        row: 5,
+        length: 64,
+        handle: 8,
+    };
+    let admits = [show.admit(1000, first), show.admit(1000, second)];
     let releases = [show.release(1000), show.release(2999), show.release(3000)];
     let (report, queue) = show.close();
     drop(queue);
@@ -41,8 +52,13 @@ pub(crate) fn last_ticks<Q: Queue<Telegram> + Drop>(
     let mut rigged = RiggedShow::new(queue);
     let _ = rigged.set(0, card);
     let mut show = rigged.start();
-    let late = show.admit(LAST_TICK - 63, 0, 64, 0);
-    let in_time = show.admit(LAST_TICK - 64, 0, 64, 0);
+    let request = Request {
+        row: 0,
+        length: 64,
+        handle: 0,
+    };
+    let late = show.admit(LAST_TICK - 63, request);
+    let in_time = show.admit(LAST_TICK - 64, request);
     let (_report, queue) = show.close();
     drop(queue);
     [in_time, late]

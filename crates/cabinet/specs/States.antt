@@ -9,11 +9,11 @@ use Rattle.cabinet.specs.declared.running.RunningShow.{RunningShow}
 -- the show's own fields, and what its queue holds
 abbrev pub state_of : {Q : Type 0} → (Q → List Telegram) → RunningShow Q → State
 state_of held show = record {
-  clock = show.clock;
-  accepted = show.accepted;
+  clock = show.book.clock;
+  accepted = show.book.accepted;
   departed = show.departed;
   displaced = show.displaced;
-  rows = show.rows;
+  rows = show.book.rows;
   held = held show.queue;
 }
 
@@ -23,16 +23,14 @@ limits_of room slack show = record { capacity = room show.queue; slack = slack s
 
 -- a show that has just started
 abbrev pub begun : {Q : Type 0} → List Row → Q → RunningShow Q
-begun rows queue = record { clock = 0; accepted = 0; departed = 0; displaced = 0; rows = rows; queue = queue }
+begun rows queue = record { book = record { clock = 0; accepted = 0; rows = rows }; departed = 0; displaced = 0; queue = queue }
 
 -- the clock, the count and one row have moved on
 abbrev pub moved_on : {Q : Type 0} → RunningShow Q → ℕ → ℕ → Row → RunningShow Q
 moved_on show now row after = record {
-  clock = now;
-  accepted = show.accepted + 1;
+  book = record { clock = now; accepted = show.book.accepted + 1; rows = slice_set show.book.rows row after };
   departed = show.departed;
   displaced = show.displaced;
-  rows = slice_set show.rows row after;
   queue = show.queue;
 }
 

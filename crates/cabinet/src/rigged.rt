@@ -39,10 +39,11 @@ impl<Q: Queue<Telegram>> RiggedShow<Q> {
         ensures queue { self.new.queue ≡ self.old.queue }
         ensures rigging { (settings : List Setting) → self.old.rows ≡ with_settings unset_rows settings → self.new.rows ≡ with_settings unset_rows (settings ++ record { row = row; card = card } ∷ []) }
     {
+        // no `get_mut` with `?`: the check learns nothing of an array that was lent and left at a `?`
         if row >= 64 {
             return Err(ShowFault::Row);
         }
-        self.rows[row as usize] = Row {
+        self.rows[usize::from(row)] = Row {
             card: Some(card),
             time: 0,
         };

@@ -12,19 +12,15 @@ ghost use Rattle.cabinet.specs.States.{begun, moved_on};
 use queues::queue::Queue;
 use records::telegram::Telegram;
 use shows::row::Row;
-use slots::enter::COUNT_LIMIT;
+use slots::book::{Book, COUNT_LIMIT};
 
 // A show that runs. It cannot be let go: it is closed.
 pub struct RunningShow<Q> {
-    // the tick of the last accepted call
-    clock: u64,
-    // the telegrams accepted so far, which is also the next telegram's number
-    accepted: u32,
+    // what it keeps of the telegrams that it accepted
+    book: Book,
     // the telegrams departed and displaced, each at most 1,000,000
     departed: u32,
     displaced: u32,
-    // the seat rows by their numbers
-    rows: [Row; 64],
     queue: Q,
 }
 
@@ -34,11 +30,13 @@ impl<Q: Queue<Telegram>> RunningShow<Q> {
         ensures { result ≡ begun rows queue }
     {
         RunningShow {
-            clock: 0,
-            accepted: 0,
+            book: Book {
+                clock: 0,
+                accepted: 0,
+                rows,
+            },
             departed: 0,
             displaced: 0,
-            rows,
             queue,
         }
     }
@@ -47,21 +45,18 @@ impl<Q: Queue<Telegram>> RunningShow<Q> {
     fn is_early(&self, at: u64) -> bool
         ensures { result ≡ early at (Q.Queue.held self.now.queue) }
     {
-        match self.queue.first() {
-            None => false,
-            Some(first) => at < first.release,
-        }
+        self.queue.first().is_some_and(|first| at < first.release)
     }
 
     // Moves the clock, the count and the row of a telegram on.
     fn move_on(&mut self, at: u64, row: u8, after: Row)
         requires within { row < 64 }
-        requires counted { self.old.accepted < 1000000 }
+        requires counted { self.old.book.accepted < 1000000 }
         ensures { self.new ≡ moved_on self.old at row after }
     {
-        self.clock = at;
-        self.accepted += 1;
-        self.rows[row as usize] = after;
+        self.book.clock = at;
+        self.book.accepted += 1;
+        self.book.rows[usize::from(row)] = after;
     }
 }
 
@@ -69,9 +64,5 @@ impl<Q: Queue<Telegram>> RunningShow<Q> {
 fn one_more(count: u32) -> u32
     ensures { result ≡ one_more count }
 {
-    if count < COUNT_LIMIT {
-        count + 1
-    } else {
-        COUNT_LIMIT
-    }
+    count.saturating_add(1).min(COUNT_LIMIT)
 }

@@ -2,6 +2,8 @@
 use Rattle.std.specs.Prelude.{◌≡◌, ℕ, Bool, true, false, ◌&&◌, List, [], ℤ, pos, negsuc, Ok, Err, Option, Result, int_le, nat_le}
 use Rattle.records.specs.Readings.{stands, blank}
 use Rattle.records.specs.declared.reading.Reading.{Reading}
+use Rattle.buffers.specs.declared.layers.Layer.{Layer}
+use Rattle.buffers.specs.declared.layers.Layer.TheVariants as layers
 use Rattle.queues.specs.Faults as queue
 use Rattle.queues.specs.Queues.{Puts, Takes, put_of}
 use Rattle.panels.specs.declared.panel.fault.PanelFault.{PanelFault}
@@ -12,10 +14,10 @@ abbrev pub number : PanelFault → ℕ
 number Bad = 16
 number (Queue e) = queue.number e
 
--- the letter P or Q, by its code
-abbrev pub layer : PanelFault → ℕ
-layer Bad = 80
-layer (Queue e) = 81
+-- the layer that refuses: the panel, or the queue
+abbrev pub layer : PanelFault → Layer
+layer Bad = layers.Panel
+layer (Queue e) = layers.Queue
 
 -- -20,000 to 20,000 millimetres
 abbrev pub within_reach : ℤ → Bool

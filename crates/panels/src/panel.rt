@@ -4,7 +4,7 @@ ghost use Rattle.std.specs.Prelude.{◌≡◌, false, is_ok};
 ghost use Rattle.panels.specs.Panels.{within_reach, in_bounds, Offers, Shows};
 
 pub use fault::PanelFault;
-use queues::queue::{Put, Queue};
+use queues::queue::Queue;
 use records::reading::Reading;
 
 // A panel over a queue of readings: it shows the position of the row that is farthest from its target.
@@ -16,7 +16,7 @@ pub struct Panel<Q> {
 fn is_within_reach(x: i32) -> bool
     ensures { result ≡ within_reach x }
 {
-    -20_000 <= x && x <= 20_000
+    (-20_000..=20_000).contains(&x)
 }
 
 // Whether a reading is of one of the 64 rows, with its position and target in the hall.
@@ -42,10 +42,8 @@ impl<Q: Queue<Reading>> Panel<Q> {
         if !is_in_bounds(&reading) {
             return Err(PanelFault::Reading);
         }
-        match self.queue.put(reading)? {
-            Put::Kept => Ok(None),
-            Put::Displaced(other) => Ok(Some(other)),
-        }
+        let put = self.queue.put(reading)?;
+        Ok(put.displaced())
     }
 
     // Takes the first reading out and answers its position, in millimetres. Refuses where there is

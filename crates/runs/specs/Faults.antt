@@ -1,5 +1,5 @@
 -- The numbers of a stream's refusals, and the layer that refuses.
-use Rattle.std.specs.Prelude.{ℕ, cond, ◌==◌}
+use Rattle.std.specs.Prelude.{ℕ}
 use Rattle.shows.specs.Faults as show
 use Rattle.panels.specs.Panels as panel
 use Rattle.buffers.specs.Faults as wire
@@ -21,5 +21,5 @@ abbrev pub layer : StreamFault → Layer
 layer Long = layers.Stream
 layer Stage = layers.Stream
 layer (Wire e) = layers.Stream
-layer (Show e) = cond (show.layer e == 81) layers.Queue layers.Show
-layer (Panel e) = cond (panel.layer e == 81) layers.Queue layers.Panel
+layer (Show e) = show.layer e
+layer (Panel e) = panel.layer e

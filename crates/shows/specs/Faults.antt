@@ -1,6 +1,8 @@
 -- The numbers of a show's refusals, and the layer that refuses.
 use Rattle.std.specs.Prelude.{ℕ}
 use Rattle.queues.specs.Faults as queue
+use Rattle.buffers.specs.declared.layers.Layer.{Layer}
+use Rattle.buffers.specs.declared.layers.Layer.TheVariants as layers
 use Rattle.shows.specs.declared.fault.ShowFault.{ShowFault}
 use Rattle.shows.specs.declared.fault.ShowFault.TheVariants.{Time, Row, Length, Count, Overrun, Yellow, Red, Queue, Early, Card, Times}
 
@@ -18,16 +20,16 @@ number Early = 9
 number Card = 10
 number Times = 17
 
--- the letter Q or U, by its code
-abbrev pub layer : ShowFault → ℕ
-layer Time = 85
-layer Row = 85
-layer Length = 85
-layer Count = 85
-layer Overrun = 85
-layer Yellow = 85
-layer Red = 85
-layer (Queue e) = 81
-layer Early = 85
-layer Card = 85
-layer Times = 85
+-- the layer that refuses: the queue, or the show
+abbrev pub layer : ShowFault → Layer
+layer Time = layers.Show
+layer Row = layers.Show
+layer Length = layers.Show
+layer Count = layers.Show
+layer Overrun = layers.Show
+layer Yellow = layers.Show
+layer Red = layers.Show
+layer (Queue e) = layers.Queue
+layer Early = layers.Show
+layer Card = layers.Show
+layer Times = layers.Show

@@ -1,7 +1,7 @@
 // What a row gives telegrams: the tests of one that is to enter and its slot, and the slots of many, one after another.
 #![tactic(auto)]
 
-pub mod enter;
+pub mod book;
 pub mod slot;
 pub mod trial;
 mod zoned;

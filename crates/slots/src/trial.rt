@@ -2,7 +2,7 @@
 ghost use Rattle.std.specs.Prelude.{◌≡◌, ◌≤◌, length};
 ghost use Rattle.slots.specs.Telling.{Tells, Told};
 
-use crate::slot::{bad_length, slot_of};
+use crate::slot::{Slot, bad_length};
 use shows::fault::{ForecastFault, ShowFault};
 use shows::row::Row;
 
@@ -34,12 +34,10 @@ impl Trial<'_> {
                 fault: ShowFault::Length,
             });
         }
-        let Some(slot) = slot_of(self.row, at, bytes) else {
-            return Err(ForecastFault::At {
-                place,
-                fault: ShowFault::Overrun,
-            });
-        };
+        let slot = Slot::of(self.row, at, bytes).ok_or(ForecastFault::At {
+            place,
+            fault: ShowFault::Overrun,
+        })?;
         *self.row = slot.after;
         Ok(slot.release)
     }

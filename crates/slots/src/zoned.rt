@@ -1,7 +1,6 @@
 // A row in a zone of the queue.
 ghost use Rattle.slots.specs.Zoned.{Judges};
 
-use crate::slot::burst_of;
 use shows::fault::ShowFault;
 use shows::row::Row;
 use shows::zone::Zone;
@@ -12,7 +11,7 @@ pub(crate) fn judge(zone: Zone, row: &Row, at: u64) -> Result<(), ShowFault>
 {
     let ahead = row.time.saturating_sub(at);
     match zone {
-        Zone::Yellow if ahead > u64::from(burst_of(row)) => Err(ShowFault::Yellow),
+        Zone::Yellow if ahead > u64::from(row.burst()) => Err(ShowFault::Yellow),
         Zone::Red if ahead > 0 => Err(ShowFault::Red),
         _ => Ok(()),
     }

@@ -19,6 +19,7 @@ use queues::queue::Queue;
 use records::reading::Reading;
 use records::telegram::Telegram;
 use shows::answer::Admission;
+use shows::request::Request;
 use wire::commands::Command;
 use wire::lines::Line;
 
@@ -63,17 +64,11 @@ impl From<Admission> for Printed {
     }
 }
 
-fn admit<Q: Queue<Telegram>>(
-    show: &mut RunningShow<Q>,
-    at: u64,
-    row: u8,
-    length: u16,
-    handle: u32,
-) -> Answer
-    ensures did { (pl : Limits) (readings : List AReading) → Did (limits_of Q.Queue.room Q.Queue.slack show.old) pl (running (state_of Q.Queue.held show.old)) readings (commands.Admit at row length handle) result (running (state_of Q.Queue.held show.new)) readings }
+fn admit<Q: Queue<Telegram>>(show: &mut RunningShow<Q>, at: u64, request: Request) -> Answer
+    ensures did { (pl : Limits) (readings : List AReading) → Did (limits_of Q.Queue.room Q.Queue.slack show.old) pl (running (state_of Q.Queue.held show.old)) readings (commands.Admit at request.row request.length request.handle) result (running (state_of Q.Queue.held show.new)) readings }
     ensures limits { limits_of Q.Queue.room Q.Queue.slack show.new ≡ limits_of Q.Queue.room Q.Queue.slack show.old }
 {
-    let admission = show.admit(at, row, length, handle)?;
+    let admission = show.admit(at, request)?;
     Ok(Printed::from(admission))
 }
 
@@ -85,17 +80,11 @@ fn release<Q: Queue<Telegram>>(show: &mut RunningShow<Q>, at: u64) -> Answer
     Ok(Printed::One(departed(telegram, at)))
 }
 
-fn exchange<Q: Queue<Telegram>>(
-    show: &mut RunningShow<Q>,
-    at: u64,
-    row: u8,
-    length: u16,
-    handle: u32,
-) -> Answer
-    ensures did { (pl : Limits) (readings : List AReading) → Did (limits_of Q.Queue.room Q.Queue.slack show.old) pl (running (state_of Q.Queue.held show.old)) readings (commands.Exchange at row length handle) result (running (state_of Q.Queue.held show.new)) readings }
+fn exchange<Q: Queue<Telegram>>(show: &mut RunningShow<Q>, at: u64, request: Request) -> Answer
+    ensures did { (pl : Limits) (readings : List AReading) → Did (limits_of Q.Queue.room Q.Queue.slack show.old) pl (running (state_of Q.Queue.held show.old)) readings (commands.Exchange at request.row request.length request.handle) result (running (state_of Q.Queue.held show.new)) readings }
     ensures limits { limits_of Q.Queue.room Q.Queue.slack show.new ≡ limits_of Q.Queue.room Q.Queue.slack show.old }
 {
-    let exchange = show.exchange(at, row, length, handle)?;
+    let exchange = show.exchange(at, request)?;
     let departed = departed(exchange.departed, at);
     Ok(Printed::Two(departed, accepted(exchange.telegram)))
 }
@@ -119,14 +108,28 @@ impl<Q: Queue<Telegram>> Stage for RunningShow<Q> {
                 row,
                 length,
                 handle,
-            } => Some(admit(self, at, row, length, handle)),
+            } => {
+                let request = Request {
+                    row,
+                    length,
+                    handle,
+                };
+                Some(admit(self, at, request))
+            }
             Command::Release { at } => Some(release(self, at)),
             Command::Exchange {
                 at,
                 row,
                 length,
                 handle,
-            } => Some(exchange(self, at, row, length, handle)),
+            } => {
+                let request = Request {
+                    row,
+                    length,
+                    handle,
+                };
+                Some(exchange(self, at, request))
+            }
             Command::Close => None,
             other => Some(to_panel(panel, other)),
         }

@@ -17,16 +17,14 @@ impl<Q: Queue<Telegram>> RunningShow<Q> {
         ensures law { (settings : List Setting) (es : List Entry) → History (limits_of Q.Queue.room Q.Queue.slack self) settings es (state_of Q.Queue.held self) → Accounts (limits_of Q.Queue.room Q.Queue.slack self) settings es (state_of Q.Queue.held self) result.0 }
     {
         let RunningShow {
-            clock: _clock,
-            accepted,
+            book,
             departed,
             displaced,
-            rows: _rows,
             queue,
         } = self;
         let held = queue.len();
         let report = Report {
-            accepted,
+            accepted: book.accepted,
             departed,
             displaced,
             held,

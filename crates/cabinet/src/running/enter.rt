@@ -9,20 +9,20 @@ use super::RunningShow;
 use queues::queue::Queue;
 use records::telegram::Telegram;
 use shows::fault::ShowFault;
+use shows::request::Request;
 use shows::zone::{Zone, zone_of};
-use slots::enter::slot_for;
 use slots::slot::Slot;
 
 // A telegram under its number, with its release.
-pub(super) fn stamp(release: u64, number: u32, row: u8, length: u16, handle: u32) -> Telegram
-    ensures { key result ≡ (release, (number, (row, (length, handle)))) }
+pub(super) fn stamp(release: u64, number: u32, request: Request) -> Telegram
+    ensures { key result ≡ (release, (number, (request.row, (request.length, request.handle)))) }
 {
     Telegram {
         release,
         number,
-        row,
-        length,
-        handle,
+        row: request.row,
+        length: request.length,
+        handle: request.handle,
     }
 }
 
@@ -35,17 +35,9 @@ impl<Q: Queue<Telegram>> RunningShow<Q> {
     }
 
     // The slot of a telegram that may enter, or the first test that refuses it.
-    pub(super) fn passes(&self, at: u64, row: u8, length: u16) -> Result<Slot, ShowFault>
-        ensures { Passes (limits_of Q.Queue.room Q.Queue.slack self.now) (state_of Q.Queue.held self.now) at row length result }
+    pub(super) fn passes(&self, at: u64, request: Request) -> Result<Slot, ShowFault>
+        ensures { Passes (limits_of Q.Queue.room Q.Queue.slack self.now) (state_of Q.Queue.held self.now) at request.row request.length result }
     {
-        slot_for(
-            self.clock,
-            self.accepted,
-            &self.rows,
-            self.zone(),
-            at,
-            row,
-            length,
-        )
+        self.book.slot_for(self.zone(), at, request)
     }
 }

@@ -7,7 +7,6 @@ use super::RunningShow;
 use queues::queue::Queue;
 use records::telegram::Telegram;
 use shows::fault::{ForecastFault, ShowFault};
-use slots::enter::{bad_time, find_row};
 use slots::trial::tell;
 
 impl<Q: Queue<Telegram>> RunningShow<Q> {
@@ -27,14 +26,13 @@ impl<Q: Queue<Telegram>> RunningShow<Q> {
         ensures history { Extends (limits_of Q.Queue.room Q.Queue.slack self.old) (state_of Q.Queue.held self.old) (forecast at row lengths.now times.old result times.new) (state_of Q.Queue.held self.new) }
     {
         if times.len() < lengths.len() {
-            return Err(ForecastFault::Whole(ShowFault::Times));
+            return Err(ShowFault::Times.into());
         }
-        if bad_time(self.clock, at) {
-            return Err(ForecastFault::Whole(ShowFault::Time));
+        if self.book.bad_time(at) {
+            return Err(ShowFault::Time.into());
         }
-        let Some(_found) = find_row(&self.rows, row) else {
-            return Err(ForecastFault::Whole(ShowFault::Row));
-        };
-        tell(&mut self.rows[row as usize], at, lengths, times)
+        let _found = self.book.find_row(row).ok_or(ShowFault::Row)?;
+        let lent = &mut self.book.rows[usize::from(row)];
+        tell(lent, at, lengths, times)
     }
 }

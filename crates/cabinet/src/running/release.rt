@@ -7,7 +7,6 @@ use super::{RunningShow, one_more};
 use queues::queue::Queue;
 use records::telegram::Telegram;
 use shows::fault::ShowFault;
-use slots::enter::bad_time;
 
 impl<Q: Queue<Telegram>> RunningShow<Q> {
     // Lets the first telegram depart at a tick. Refuses a bad time (1), where nothing is held (8, the
@@ -18,14 +17,14 @@ impl<Q: Queue<Telegram>> RunningShow<Q> {
         ensures limits { limits_of Q.Queue.room Q.Queue.slack self.new ≡ limits_of Q.Queue.room Q.Queue.slack self.old }
         ensures history { Extends (limits_of Q.Queue.room Q.Queue.slack self.old) (state_of Q.Queue.held self.old) (release at result) (state_of Q.Queue.held self.new) }
     {
-        if bad_time(self.clock, at) {
+        if self.book.bad_time(at) {
             return Err(ShowFault::Time);
         }
         if self.is_early(at) {
             return Err(ShowFault::Early);
         }
         let telegram = self.queue.take()?;
-        self.clock = at;
+        self.book.clock = at;
         self.departed = one_more(self.departed);
         Ok(telegram)
     }

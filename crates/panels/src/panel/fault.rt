@@ -2,6 +2,7 @@ ghost use Rattle.std.specs.Prelude.{◌≡◌};
 ghost use Rattle.panels.specs.Panels.{number as number_of, layer as layer_of};
 ghost use Rattle.panels.specs.declared.panel.fault.PanelFault.TheVariants.{Queue};
 
+use buffers::layers::Layer;
 use queues::fault::QueueFault;
 
 // Why a panel refuses.
@@ -24,13 +25,13 @@ impl PanelFault {
         }
     }
 
-    // The letter of the layer that refuses: P for the panel, Q for the queue.
-    pub fn layer(self) -> char
+    // The layer that refuses: the panel, or the queue.
+    pub fn layer(self) -> Layer
         ensures { result ≡ layer_of self }
     {
         match self {
-            PanelFault::Reading => 'P',
-            PanelFault::Queue(_) => 'Q',
+            PanelFault::Reading => Layer::Panel,
+            PanelFault::Queue(_) => Layer::Queue,
         }
     }
 }

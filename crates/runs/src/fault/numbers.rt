@@ -9,9 +9,6 @@ use shows::fault::ShowFault;
 use wire::faults::WireFault;
 use wire::lines::{Layer, Line};
 
-// The letter by which a lower layer names the queue below it.
-const QUEUE: char = 'Q';
-
 impl StreamFault {
     // The number under which the fault is reported.
     pub fn number(self) -> u8
@@ -31,10 +28,8 @@ impl StreamFault {
         ensures { result ≡ layer_of self }
     {
         match self {
-            StreamFault::Show(fault) if fault.layer() == QUEUE => Layer::Queue,
-            StreamFault::Show(_) => Layer::Show,
-            StreamFault::Panel(fault) if fault.layer() == QUEUE => Layer::Queue,
-            StreamFault::Panel(_) => Layer::Panel,
+            StreamFault::Show(fault) => fault.layer(),
+            StreamFault::Panel(fault) => fault.layer(),
             _ => Layer::Stream,
         }
     }

@@ -9,7 +9,7 @@ impl RowCard {
     pub fn new(pace: u16, burst: u32) -> Result<RowCard, ShowFault>
         ensures { Makes pace burst result }
     {
-        if pace < 1 || pace > 1000 || burst > 1_000_000 {
+        if !(1..=1000).contains(&pace) || burst > 1_000_000 {
             return Err(ShowFault::Card);
         }
         Ok(RowCard { pace, burst })

@@ -1,8 +1,10 @@
 ghost use Rattle.std.specs.Prelude.{◌≡◌};
 ghost use Rattle.shows.specs.Faults.{number as number_of, layer as layer_of};
+ghost use Rattle.shows.specs.declared.fault.ForecastFault.TheVariants.{Whole};
 ghost use Rattle.shows.specs.declared.fault.ShowFault.TheVariants.{Queue};
 
-use super::ShowFault;
+use super::{ForecastFault, ShowFault};
+use buffers::layers::Layer;
 use queues::fault::QueueFault;
 
 impl ShowFault {
@@ -25,13 +27,13 @@ impl ShowFault {
         }
     }
 
-    // The letter of the layer that refuses: Q for the queue, U for the show.
-    pub fn layer(self) -> char
+    // The layer that refuses: the queue, or the show.
+    pub fn layer(self) -> Layer
         ensures { result ≡ layer_of self }
     {
         match self {
-            ShowFault::Queue(_) => 'Q',
-            _ => 'U',
+            ShowFault::Queue(_) => Layer::Queue,
+            _ => Layer::Show,
         }
     }
 }
@@ -42,5 +44,14 @@ impl From<QueueFault> for ShowFault {
 
     fn from(refusal: QueueFault) -> ShowFault {
         ShowFault::Queue(refusal)
+    }
+}
+
+// A fault by which a forecast is refused as a whole.
+impl From<ShowFault> for ForecastFault {
+    ghost from_gives = { λ e r. r ≡ Whole e };
+
+    fn from(refusal: ShowFault) -> ForecastFault {
+        ForecastFault::Whole(refusal)
     }
 }

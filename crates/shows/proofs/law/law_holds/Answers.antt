@@ -1,6 +1,5 @@
-use Rattle.std.proofs.Common.{refl}
 use Rattle.shows.proofs.Accounting.{accounts_hold}
 use Rattle.shows.proofs.law.law_holds.Goals as goal
 
-pub returns : goal.returns
-returns c = record { answer = refl; law = accounts_hold }
+pub returns-clause-law : goal.returns-clause-law
+returns-clause-law c = accounts_hold

@@ -10,10 +10,10 @@ pub returns-in_err-admission-clause-did : goal.returns-in_err-admission-clause-d
 returns-in_err-admission-clause-did g c =
     let a = c.args in
     let h = c.in_err-admission in
-    λ pl readings. record { event = calls (admit a.at a.row a.length a.handle (Err h.field-0.0)); does = admit_called h.ensures.step; prints = refused_as (Show h.field-0.0) c.from_residual.result c.from_residual.ensures.1 }
+    λ pl readings. record { event = calls (admit a.at a.request.row a.request.length a.request.handle (Err h.field-0.0)); does = admit_called h.ensures.step; prints = refused_as (Show h.field-0.0) c.from_residual.result c.from_residual.ensures.1 }
 
 pub returns-clause-did : goal.returns-clause-did
 returns-clause-did g c =
     let a = c.args in
     let h = c.in_ok-admission in
-    λ pl readings. record { event = calls (admit a.at a.row a.length a.handle (Ok h.admission)); does = admit_called h.ensures.step; prints = λ place. c.from.ensures }
+    λ pl readings. record { event = calls (admit a.at a.request.row a.request.length a.request.handle (Ok h.admission)); does = admit_called h.ensures.step; prints = λ place. c.from.ensures }

@@ -1,14 +1,9 @@
-use Rattle.std.proofs.Common.{sym, refl, arith}
-use Rattle.std.proofs.lemmas.Bool.{cond-true, cond-false, lt-ltb, le-ltb}
+use Rattle.std.proofs.Common.{rules}
 use Rattle.cabinet.proofs.Rigging.{sets}
 use Rattle.cabinet.proofs.rigged.RiggedShow.set.Goals as goal
 
-pub returns-then-row-ge64 : goal.returns-then-row-ge64
-returns-then-row-ge64 g c =
-    let same = sym (cond-false _ _ _ (le-ltb c.args.row 64 (omega arith))) in
-    record { answer = (omega arith, refl); rows = same; queue = refl; rigging = sets _ _ _ same }
+pub returns-then-row-ge64-clause-rigging : goal.returns-then-row-ge64-clause-rigging
+returns-then-row-ge64-clause-rigging g c = sets _ _ _ (search rules)
 
-pub returns : goal.returns
-returns g c =
-    let is = sym (cond-true _ _ _ (lt-ltb c.args.row 64 (omega arith))) in
-    record { answer = omega arith; rows = is; queue = refl; rigging = sets _ _ _ is }
+pub returns-clause-rigging : goal.returns-clause-rigging
+returns-clause-rigging g c = sets _ _ _ (search rules)

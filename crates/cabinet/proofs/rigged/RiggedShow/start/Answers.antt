@@ -1,8 +1,5 @@
 use Rattle.cabinet.proofs.Rigging.{starts}
 use Rattle.cabinet.proofs.rigged.RiggedShow.start.Goals as goal
 
-pub returns : goal.returns
-returns g c = record {
-  shows = c.begin.ensures;
-  history = starts g.Q.Queue.held g.Q.Queue.room g.Q.Queue.slack c.args.self.rows c.args.self.queue c.begin.result c.begin.ensures;
-}
+pub returns-clause-history : goal.returns-clause-history
+returns-clause-history g c = starts g.Q.Queue.held g.Q.Queue.room g.Q.Queue.slack c.args.self.rows c.args.self.queue c.begin.result c.begin.ensures

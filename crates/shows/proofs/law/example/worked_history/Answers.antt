@@ -1,6 +1,5 @@
-use Rattle.std.proofs.Common.{refl}
 use Rattle.shows.proofs.Worked.{worked}
 use Rattle.shows.proofs.law.example.worked_history.Goals as goal
 
-pub returns : goal.returns
-returns c = record { answer = refl; happens = worked }
+pub returns-clause-happens : goal.returns-clause-happens
+returns-clause-happens c = worked
