@@ -3,7 +3,7 @@ ghost use Rattle.std.specs.Prelude.{◌≡◌, IfOk};
 ghost use Rattle.std.specs.List.{flat_map};
 ghost use Rattle.wire.specs.Lines.{text_of};
 
-use crate::writer::write_line;
+use crate::text::Text;
 use std::alloc::{AllocError, Global};
 use wire::lines::Line;
 
@@ -13,11 +13,10 @@ pub fn list_text(heap: Global, lines: &[Line]) -> Result<Vec<u8>, AllocError>
 {
     // 16 bytes a line are reserved at once; a longer text grows
     let mut text = Vec::with_capacity(heap, lines.len().saturating_mul(16))?;
-    let mut buffer = [0; 96];
+    let mut line_text = Text::new();
     for line in lines {
-        if let Ok(count) = write_line(line, &mut buffer) {
-            text.extend_from_slice(&buffer[0..count])?;
-        }
+        line_text.set(line);
+        text.extend_from_slice(line_text.as_bytes())?;
     }
     Ok(text)
 }
