@@ -1,5 +1,5 @@
 -- What a writer answers, and what it leaves in its buffer.
-use Rattle.std.specs.Prelude.{ℕ, ◌+◌, cond, List, ◌++◌, length, take, drop, Ok, Err, Result, nat_le}
+use Rattle.std.specs.Prelude.{ℕ, cond, List, ◌++◌, length, drop, Ok, Err, Result, nat_le}
 use Rattle.buffers.specs.declared.faults.WireFault.{WireFault}
 use Rattle.buffers.specs.declared.faults.WireFault.TheVariants.{Buffer}
 
@@ -10,10 +10,6 @@ count_in out bs = cond (nat_le 96 (length out)) (Ok (length bs)) (Err Buffer)
 -- bytes over the front of a list, of which the rest stays
 abbrev pub put_over : List ℕ → List ℕ → List ℕ
 put_over out bs = bs ++ drop (length bs) out
-
--- bytes over a list from a place on, of which the rest stays
-abbrev pub put_at : ℕ → List ℕ → List ℕ → List ℕ
-put_at i out bs = take i out ++ (bs ++ drop (i + length bs) out)
 
 -- the buffer after bytes are put into it: a short one stays as it was
 abbrev pub after : List ℕ → List ℕ → List ℕ

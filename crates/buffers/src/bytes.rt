@@ -1,6 +1,6 @@
 // Bytes put into a buffer.
-ghost use Rattle.std.specs.Prelude.{◌≡◌, ◌+◌, ◌≤◌, [], ◌∷◌, length};
-ghost use Rattle.buffers.specs.Buffers.{put_over, put_at};
+ghost use Rattle.std.specs.Prelude.{◌≡◌, ◌≤◌, length};
+ghost use Rattle.buffers.specs.Buffers.{put_over};
 
 // Puts bytes at the front, leaves what is past them, and answers how many they are.
 pub fn put(out: &mut [u8], bytes: &[u8]) -> usize
@@ -11,14 +11,4 @@ pub fn put(out: &mut [u8], bytes: &[u8]) -> usize
     let count = bytes.len();
     out[0..count].copy_from_slice(bytes);
     count
-}
-
-// Puts a byte at a place, leaves the others, and answers the place after it.
-pub fn put_byte(out: &mut [u8], at: usize, byte: u8) -> usize
-    requires { at + 1 ≤ length out.old }
-    ensures place { result ≡ at + 1 }
-    ensures buffer { out.new ≡ put_at at out.old (byte ∷ []) }
-{
-    out[at] = byte;
-    at + 1
 }
