@@ -14,7 +14,8 @@ use records::telegram::Telegram;
 use shows::row::Row;
 use slots::book::{Book, COUNT_LIMIT};
 
-// A show that runs. It cannot be let go: it is closed.
+// A show that runs. It cannot be let go: it is closed. Each call has a clause `limits`, that the limits of
+// the queue stay: it relates before and after, so no ghost field can say it.
 pub struct RunningShow<Q> {
     // what it keeps of the telegrams that it accepted
     book: Book,

@@ -56,6 +56,7 @@ pub fn tell(
 {
     let was = *row;
     let mut trial = Trial { row, was };
+    // no `zip` with `times`: a refusal needs the place anyhow, and a nested pattern is no plainer
     for (i, bytes) in lengths.iter().enumerate() {
         times[i] = trial.step(at, *bytes, i)?;
     }
