@@ -2,15 +2,16 @@
 ghost use Rattle.std.specs.Prelude.{◌≡◌};
 ghost use Rattle.buffers.specs.Faults.{number_of};
 
-// Why bytes are no command, or a buffer is not written to (docs/REFUSALS.md).
+// Why bytes are no command, or a buffer is not written to, with the number under which that is reported
+// (docs/REFUSALS.md).
 #[derive(Clone, Copy, PartialEq, Eq, Debug)]
 pub enum WireFault {
     // the command byte is none of 01 to 08
-    Unknown,
+    Unknown = 14,
     // fewer operand bytes are left than the command takes
-    CutOff,
+    CutOff = 15,
     // a buffer to write into has under 96 bytes
-    Buffer,
+    Buffer = 17,
 }
 
 impl WireFault {
@@ -18,10 +19,6 @@ impl WireFault {
     pub fn number(self) -> u8
         ensures { result ≡ number_of self }
     {
-        match self {
-            WireFault::Unknown => 14,
-            WireFault::CutOff => 15,
-            WireFault::Buffer => 17,
-        }
+        self as u8
     }
 }

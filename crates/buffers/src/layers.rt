@@ -12,7 +12,8 @@ pub enum Layer {
 }
 
 impl Layer {
-    // The letter by which a line names the layer: U, Q, S or P.
+    // The letter by which a line names the layer: U, Q, S or P. As the number of its variant a letter would have to
+    // be written `b'U' as isize`, which is no plainer.
     pub fn letter(self) -> u8
         ensures { result ≡ letter_of self }
     {
