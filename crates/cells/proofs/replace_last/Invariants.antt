@@ -8,3 +8,6 @@ invariant-loop-k g l =
     × (take l.k l.cells ≡ take l.k l.initial.cells)
     × (drop (l.k + 1) l.cells ≡ drop l.k (take (length l.initial.cells - 1) l.initial.cells))
     × All (λ y. g.R.Record.order y l.x ≡ false) (drop l.k (take (length l.initial.cells - 1) l.initial.cells))
+
+abbrev pub decreases-loop-k : goal.decreases-loop-k
+decreases-loop-k g l = l.k
