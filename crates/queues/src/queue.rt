@@ -15,7 +15,7 @@ pub enum Put<R> {
 impl<R: Record> Put<R> {
     // The record that left for the one that was put, where one did.
     pub fn displaced(self) -> Option<R>
-        ensures { self ≡ put_of result }
+        ensures { put_of result ≡ self }
     {
         match self {
             Put::Kept => None,
