@@ -10,7 +10,8 @@ use wire::faults::WireFault;
 use wire::lines::{Layer, Line};
 
 impl StreamFault {
-    // The number under which the fault is reported.
+    // The number under which the fault is reported. Those of the lower layers are carried along, which no number
+    // beside a variant can say.
     pub fn number(self) -> u8
         ensures { result ≡ number_of self }
     {

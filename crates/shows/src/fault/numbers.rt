@@ -8,7 +8,8 @@ use buffers::layers::Layer;
 use queues::fault::QueueFault;
 
 impl ShowFault {
-    // The number under which the fault is reported.
+    // The number under which the fault is reported. The queue's own is carried along, which no number beside a
+    // variant can say.
     pub fn number(self) -> u8
         ensures { result ≡ number_of self }
     {
