@@ -16,10 +16,10 @@ pub(crate) fn telegrams(heap: Global) -> Result<SideCell<Telegram, TelegramGroup
     ensures { IfOk result EmptyTelegrams }
 {
     let cells = vec![in heap; Telegram::blank(); 32]?;
-    match GroupCells::new(cells, 8, 4) {
-        Ok(over) => Ok(SideCell::new(TelegramGroups::new(over))),
-        Err(_) => unreachable(),
-    }
+    let Ok(over) = GroupCells::new(cells, 8, 4) else {
+        unreachable()
+    };
+    Ok(SideCell::new(TelegramGroups::new(over)))
 }
 
 // The panel's queue: 4 groups of 2 readings.
@@ -27,8 +27,8 @@ pub(crate) fn readings(heap: Global) -> Result<ReadingGroups, AllocError>
     ensures { IfOk result EmptyReadings }
 {
     let cells = vec![in heap; Reading::blank(); 8]?;
-    match GroupCells::new(cells, 4, 2) {
-        Ok(over) => Ok(ReadingGroups::new(over)),
-        Err(_) => unreachable(),
-    }
+    let Ok(over) = GroupCells::new(cells, 4, 2) else {
+        unreachable()
+    };
+    Ok(ReadingGroups::new(over))
 }
