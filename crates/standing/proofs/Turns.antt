@@ -1,7 +1,7 @@
 -- A turn of a step's loop: group i is as it will be, and the rest as it was.
 use Rattle.std.proofs.Common.{◌≡◌, ℕ, ◌+◌, ◌-◌, ◌*◌, ◌<◌, ◌≤◌, Bool, List, [], ◌++◌, length, get_or, take, drop, sym, ap, ◌∙◌, subst, arith}
 use borrow.Rule.Slice.PartMut.{put_mid}
-use Rattle.std.proofs.lemmas.List.{append_assoc, append-nil, drop-drop, drop-take, drop_at, drop_all, take-take, take_all, get_or-drop, get_or-take, length-drop, length-take-le}
+use Rattle.std.proofs.lemmas.List.{append_assoc, append-nil, drop-drop, drop-take, drop_at, drop_all, take-take, take_all, length-drop, length-take-le}
 use Rattle.std.proofs.lemmas.Slice.{take-put_mid, take-put_mid_below, drop-put_mid}
 use Rattle.records.specs.Linear.{Linear}
 use Rattle.records.specs.Sorting.{insert, Ascending, earlier, later}
@@ -49,16 +49,6 @@ pub part_ready : {R : Type 0} (le : R → R → Bool) (d : R) (m n i : ℕ) (E c
 part_ready le d m n i E cells f a k h rest =
     let p = part_is m n i E cells (k ∙ f) h rest in
     (ap length p ∙ length_row m n i E f h, subst (Ascending le) (sym p) (row_ascends le d m n i E f a h))
-
--- the end of each loop
-pub turns_end : {R : Type 0} (m n i : ℕ) (cells all E : List R) (f : List (List R) → List R) → f [] ≡ [] → length cells ≡ m * n → i ≡ m → take (i * n) cells ++ f (rows m n i E) ≡ all → cells ≡ all
-turns_end m n i cells all E f fe lc e inv =
-    let z : m - i ≡ 0 = omega arith in
-    let g : f (rows m n i E) ≡ [] = ap (λ v. f (groups_of v n (drop (i * n) E))) z ∙ fe in
-    let w : length cells ≤ m * n = omega arith in
-    let a : take (i * n) cells ≡ cells = ap (λ v. take (v * n) cells) e ∙ take_all (m * n) cells w in
-    let b = append-nil cells in
-    cc
 
 module _ {R : Type 0} (le : R → R → Bool) (l : Linear le) (d : R) (m n i : ℕ) (two : 2 ≤ n) (E : List R) (sizes : length E ≡ m * n) (h : i < m) (asc : Ascending le (row n i E)) where
   -- what is left to do from group i on, one group at a time

@@ -1,9 +1,9 @@
-use Rattle.std.proofs.Common.{◌≡◌, ◌+◌, ◌-◌, ◌*◌, ◌<◌, ◌≤◌, length, get_or, take, drop, refl, sym, ap, ◌∙◌, arith, rules}
+use Rattle.std.proofs.Common.{◌≡◌, ◌+◌, ◌-◌, ◌*◌, ◌<◌, ◌≤◌, length, get_or, take, drop, refl, sym, ap, ◌∙◌, arith}
 use Rattle.std.specs.Option.{unwrap_or, option_copied}
 use Rattle.std.proofs.lemmas.List.{get_or_read}
-use Rattle.standing.specs.Steps.{flat, next_a, exchange_groups}
+use Rattle.standing.specs.Steps.{next_a}
 use Rattle.standing.proofs.Rows.{rows, row_ascends, next_is}
-use Rattle.standing.proofs.Turns.{part_ready, exchange_turn, turns_end}
+use Rattle.standing.proofs.Turns.{part_ready, exchange_turn}
 use Rattle.group_steps.proofs.exchange_step.Goals as goal
 
 pub refit-requires-clause-ascending : goal.refit-requires-clause-ascending

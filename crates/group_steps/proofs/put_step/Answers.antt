@@ -1,8 +1,7 @@
-use Rattle.std.proofs.Common.{◌≡◌, ◌-◌, ◌*◌, ◌<◌, ◌≤◌, get_or, refl, ap, ◌∙◌, arith}
-use Rattle.standing.specs.Steps.{flat, put_groups}
+use Rattle.std.proofs.Common.{◌-◌, ◌*◌, ◌<◌, ◌≤◌, refl, ◌∙◌, arith}
 use Rattle.standing.proofs.Lists.{ascending_take}
 use Rattle.standing.proofs.Rows.{row_ascends}
-use Rattle.standing.proofs.Turns.{part_ready, put_turn, turns_end}
+use Rattle.standing.proofs.Turns.{part_ready, put_turn}
 use Rattle.group_steps.proofs.put_step.Goals as goal
 
 pub replace_last-z-requires : goal.replace_last-z-requires

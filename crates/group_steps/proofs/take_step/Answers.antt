@@ -1,4 +1,4 @@
-use Rattle.std.proofs.Common.{◌≡◌, ◌+◌, ◌-◌, ◌*◌, ◌<◌, ◌≤◌, get_or, take, drop, refl, sym, ap, ◌∙◌, subst, zero-mul, arith}
+use Rattle.std.proofs.Common.{◌≡◌, ◌+◌, ◌-◌, ◌*◌, ◌<◌, ◌≤◌, get_or, take, drop, refl, ap, ◌∙◌, subst, zero-mul, arith}
 use Rattle.standing.specs.Steps.{flat, next_a, take_groups}
 use Rattle.standing.proofs.Rows.{rows, row_ascends, next_is}
 use Rattle.standing.proofs.Turns.{take_turn}
