@@ -16,7 +16,7 @@ use shapes::GroupCells;
 #[derive(Drop)]
 pub struct Groups<R: Record> {
     over: GroupCells<R>,
-    // how many records the cells hold
+    // how many records the cells hold: free cells may stand in any group, so no length tells
     held: usize,
     ghost ascends: { Ascends R.Record.order R.Record.last over.shape.groups over.shape.size (vec_items over.cells) },
     ghost staggers: { Staggers R.Record.order R.Record.last over.shape.groups over.shape.size (vec_items over.cells) },
