@@ -1,31 +1,33 @@
 mod numbers;
 
 use queues::fault::QueueFault;
+use thiserror::Error;
 
 // Why a show refuses (docs/REFUSALS.md).
-#[derive(Clone, Copy, PartialEq, Eq, Debug)]
+#[derive(Clone, Copy, PartialEq, Eq, Debug, Error)]
 pub enum ShowFault {
-    // the time is below the clock or past the last tick
+    #[error("the time is below the clock or past the last tick")]
     Time,
-    // the row is not set; in a setting, there is no such row
+    // in a setting, there is no such row
+    #[error("the row is not set")]
     Row,
-    // the length is below 64 or above 1,518 bytes
+    #[error("the length is below 64 or above 1,518 bytes")]
     Length,
-    // 1,000,000 telegrams are accepted already
+    #[error("1,000,000 telegrams are accepted already")]
     Count,
-    // the row would be busy past the last tick
+    #[error("the row would be busy past the last tick")]
     Overrun,
-    // yellow, and the row is further ahead than its burst
+    #[error("yellow, and the row is further ahead than its burst")]
     Yellow,
-    // red, and the row is ahead
+    #[error("red, and the row is ahead")]
     Red,
-    // the queue refuses
+    #[error("the queue refuses: {0}")]
     Queue(QueueFault),
-    // the first telegram is not due yet
+    #[error("the first telegram is not due yet")]
     Early,
-    // pace or burst out of bounds
+    #[error("pace or burst out of bounds")]
     Card,
-    // fewer times than lengths
+    #[error("fewer times than lengths")]
     Times,
 }
 
