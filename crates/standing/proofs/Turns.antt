@@ -131,8 +131,7 @@ module _ {R : Type 0} (le : R → R → Bool) (l : Linear le) (d : R) (m n i : �
       let p = is ∙ back_row m n i E cells before in
       let more = take_more_row in
       let g1 : g ≡ insert le (next_a d (rows m n (i + 1) E)) (drop 1 (row n i E)) = eg ∙ ap (λ v. insert le v (drop 1 part)) ex ∙ ap (λ v. insert le (next_a d (rows m n (i + 1) E)) (drop 1 v)) p in
-      let lt = length-take-le (i * n) cells (omega arith) in
-      (
+      let lt = length-take-le (i * n) cells (omega arith) in (
         take-put_mid_below (i * n) k cells g (i * n) (omega arith) (omega arith) ∙ sym (take-take (i * n) ((i + 1) * n) cells less) ∙ ap (take (i * n)) before ∙ take-take (i * n) ((i + 1) * n) E less,
         drop_at (take (i * n) cells) (g ++ drop k (drop (i * n) cells)) (i * n) lt ∙ ap (λ v. g ++ v) (drop-drop k (i * n) cells ∙ ap (λ v. drop v cells) q ∙ after) ∙ ap (λ v. v ++ flat (take_groups le d n (rows m n (i + 1) E))) g1 ∙ sym more,
         er ∙ ap (λ v. get_or v 0 d) p ∙ sym (ap (next_a d) (rows_more m n i E h)),
