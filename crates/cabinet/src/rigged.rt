@@ -12,6 +12,7 @@ use shows::row::Row;
 
 // A show that is being made: its rows are set one by one, and then it is started. It cannot be let go.
 pub struct RiggedShow<Q> {
+    // the 64 seat rows by their numbers, in fixed memory
     rows: [Row; 64],
     queue: Q,
 }

@@ -1,5 +1,6 @@
 // The steps of a grouped queue over lent cells of any record kind: so many groups of so many cells,
-// the first group's first (docs/QUEUES.md). What they ask of the cells the queue types above keep. A
+// the first group's first (docs/QUEUES.md). Slices that are lent carry neither their shape nor how they
+// stand: the queue that lends them has both in its type, and keeps what is asked of them here. A
 // group is taken by its places and not from `chunks_exact_mut`: of what is written through the parts
 // which that lends, a proof knows the number of cells and no cell.
 #![tactic(auto)]

@@ -73,6 +73,7 @@ impl<R: Record> Queue<R> for Groups<R> {
         self.held == self.over.shape.cells()
     }
 
+    // There are at most 4,096 cells, so no cast loses anything: `try_from` would answer an error that cannot come.
     fn len(&self) -> u32 {
         self.held as u32
     }

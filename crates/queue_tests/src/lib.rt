@@ -14,6 +14,7 @@ mod tests {
     use std::test::Fail;
     use telegram_queues::{TelegramGroups, TelegramSorted};
 
+    // As the bench makes it: a crate for the two would be no plainer.
     fn telegram(release: u64) -> Telegram {
         Telegram {
             release,
@@ -26,18 +27,12 @@ mod tests {
 
     // The release of the record that a put displaced, or 0.
     fn displaced(answer: Put<Telegram>) -> u64 {
-        match answer {
-            Put::Kept => 0,
-            Put::Displaced(telegram) => telegram.release,
-        }
+        answer.displaced().map_or(0, |telegram| telegram.release)
     }
 
     // The number of a refusal, or 0.
     fn refusal(answer: Result<Telegram, QueueFault>) -> u8 {
-        match answer {
-            Ok(_telegram) => 0,
-            Err(fault) => fault.number(),
-        }
+        answer.err().map_or(0, |fault| fault.number())
     }
 
     #[test]

@@ -1,7 +1,7 @@
 -- A queue that is held another way: the same meaning read off another value.
-use Rattle.std.proofs.Common.{◌≡◌, ℕ, ◌<◌, Bool, List, ◌∷◌, length, Ok, Err, Result, sym, refl, ap, ◌∙◌, subst, inl, inr, ⊎_elim}
+use Rattle.std.proofs.Common.{◌≡◌, ℕ, ◌<◌, Bool, List, ◌∷◌, length, Ok, Err, Result, sym, ap, ◌∙◌, subst}
 use Rattle.records.specs.Sorting.{insert, later_than}
-use Rattle.queues.specs.Queues.{SameLimits, Puts, Takes, Exchanges}
+use Rattle.queues.specs.Queues.{SameLimits, Puts, Takes}
 use Rattle.queues.specs.declared.queue.Put.{Put}
 use Rattle.queues.specs.declared.queue.Put.TheVariants.{Kept, Displaced}
 use Rattle.queues.specs.declared.fault.QueueFault.{QueueFault}
@@ -29,21 +29,3 @@ module _ {R Q P : Type 0} (held : Q → List R) (room slack : Q → ℕ) (held�
         let near : later_than le d (held q) < slack q = subst (λ v. later_than le d v < slack q) (sym a.held_is) (subst (λ v. later_than le d (held₀ p) < v) (sym a.slack_is) t.2.near) in
         (t.0, ap length a.held_is ∙ t.1 ∙ sym a.room_is, record { rest = t.2.rest; was = a.held_is ∙ t.2.was; is = b.held_is ∙ t.2.is; near = near }, same_over t.3)
     puts_over x (Err e) same t = (t.0, t.1, same t.2)
-
-    pub exchanges_over : (x : R) (r : Result R QueueFault) → (p' ≡ p → q' ≡ q) → Exchanges le blank held₀ room₀ slack₀ p x r p' → Exchanges le blank held room slack q x r q'
-    exchanges_over x (Ok r) same t = (t.0, record { rest = t.1.rest; was = a.held_is ∙ t.1.was; is = b.held_is ∙ t.1.is }, same_over t.2)
-    exchanges_over x (Err e) same t = (⊎_elim inl (λ h. inr (h.0, a.held_is ∙ h.1, h.2)) t.0, same t.1)
-
--- a value about another, `inner`, and equal where those are: it means what the inner one means
-module _ {R W P : Type 0} (held : P → List R) (room slack : P → ℕ) (inner : W → P) (same : (x y : W) → inner x ≡ inner y → x ≡ y) (w w' : W) where
-  reads : (v : W) → Reads (λ v. held (inner v)) (λ v. room (inner v)) (λ v. slack (inner v)) held room slack v (inner v)
-  reads v = record { held_is = refl; room_is = refl; slack_is = refl }
-
-  pub takes_in : (r : Result R QueueFault) → Takes held room slack (inner w) r (inner w') → Takes (λ v. held (inner v)) (λ v. room (inner v)) (λ v. slack (inner v)) w r w'
-  takes_in r = takes_over (λ v. held (inner v)) (λ v. room (inner v)) (λ v. slack (inner v)) held room slack w w' (inner w) (inner w') (reads w) (reads w') r (same w' w)
-
-  pub puts_in : (le : R → R → Bool) (blank x : R) (r : Result (Put R) QueueFault) → Puts le blank held room slack (inner w) x r (inner w') → Puts le blank (λ v. held (inner v)) (λ v. room (inner v)) (λ v. slack (inner v)) w x r w'
-  puts_in le blank x r = puts_over (λ v. held (inner v)) (λ v. room (inner v)) (λ v. slack (inner v)) held room slack w w' (inner w) (inner w') (reads w) (reads w') le blank x r (same w' w)
-
-  pub exchanges_in : (le : R → R → Bool) (blank x : R) (r : Result R QueueFault) → Exchanges le blank held room slack (inner w) x r (inner w') → Exchanges le blank (λ v. held (inner v)) (λ v. room (inner v)) (λ v. slack (inner v)) w x r w'
-  exchanges_in le blank x r = exchanges_over (λ v. held (inner v)) (λ v. room (inner v)) (λ v. slack (inner v)) held room slack w w' (inner w) (inner w') (reads w) (reads w') le blank x r (same w' w)

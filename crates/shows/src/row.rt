@@ -13,7 +13,8 @@ pub struct Row {
 }
 
 impl Row {
-    // Ticks a byte; 0 where the row is not set.
+    // Ticks a byte; 0 where the row is not set. It and `burst` each read a field of the card: one function for both
+    // would take the field as a parameter, which is no plainer.
     pub fn pace(&self) -> u16
         ensures { result ≡ card_pace self.now }
     {

@@ -20,7 +20,7 @@ pub struct Book {
     pub clock: u64,
     // the telegrams accepted so far, which is also the next telegram's number
     pub accepted: u32,
-    // the seat rows by their numbers
+    // the 64 seat rows by their numbers, in fixed memory
     pub rows: [Row; 64],
 }
 

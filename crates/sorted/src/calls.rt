@@ -72,6 +72,7 @@ impl<R: Record> Queue<R> for Sorted<R> {
         self.held == self.over.cells.len()
     }
 
+    // There are at most 4,096 cells, so no cast loses anything: `try_from` would answer an error that cannot come.
     fn len(&self) -> u32 {
         self.held as u32
     }

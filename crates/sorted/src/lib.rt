@@ -23,7 +23,8 @@ pub struct Sorted<R: Record> {
 }
 
 impl<R: Record> Sorted<R> {
-    // Nothing is held: every cell is blanked.
+    // Nothing is held: every cell is blanked. A grouped queue is made alike, over cells of another shape: the two
+    // lines are no plainer as a function of both.
     pub fn new(mut over: SortedCells<R>) -> Sorted<R>
         ensures { vec_items result.over.cells ≡ replicate (vec_len over.cells) R.Record.last }
     {

@@ -1,5 +1,6 @@
 // How a newcomer comes in among cells of which the first `held` hold a record. Of the free cells only
-// the first is looked at, and only by a put, which fills it.
+// the first is looked at, and only by a put, which fills it. Slices that are lent carry neither the count
+// nor how they stand: the queue that lends them has both in its type.
 #![tactic(auto)]
 
 ghost use Rattle.std.specs.Prelude.{◌≡◌, ◌-◌, ◌<◌, length, slice_index_or};

@@ -45,7 +45,8 @@ fn departed(telegram: Telegram, at: u64) -> Line
     }
 }
 
-// The lines of an accepted admit: its telegram, then the one that it displaced.
+// The lines of an accepted admit: its telegram, then the one that it displaced. Each case is a variant of its own,
+// so `map_or` would be no plainer.
 impl From<Admission> for Printed {
     ghost from_gives = { λ admission printed. lines_in printed ≡ accepted_line admission.telegram ∷ displaced_line admission.displaced };
 

@@ -56,6 +56,7 @@ fn play_on<Q: Queue<Telegram>, P: Queue<Reading>>(
 {
     let ended = playing.stage(&mut show);
     let (report, queue) = show.close();
+    // a show cannot be let go, so it is closed before the ways part, and no `?` leaves it behind
     match ended {
         Ok(found) => {
             playing.go_on(found, Ok(Printed::One(totals(report))));

@@ -1,4 +1,4 @@
-// The queues of telegrams (docs/QUEUES.md).
+// The queues of telegrams (docs/QUEUES.md), named for their kind. Names alone, which each kind has of its own.
 #![tactic(auto)]
 
 use grouped::Groups;

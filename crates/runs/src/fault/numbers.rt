@@ -49,7 +49,8 @@ impl Placed {
     }
 }
 
-// A fault of the bytes, carried whole.
+// A fault of the bytes, carried whole. Written by hand, as the two below: a contract knows of `?` what
+// `from_gives` says, and a derive says nothing.
 impl From<WireFault> for StreamFault {
     ghost from_gives = { λ e r. r ≡ OfWire e };
 

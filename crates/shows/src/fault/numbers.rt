@@ -39,7 +39,8 @@ impl ShowFault {
     }
 }
 
-// A queue's fault is carried whole.
+// A queue's fault is carried whole. Written by hand, as each such turn of a fault: a contract knows of `?` what
+// `from_gives` says, and a derive says nothing.
 impl From<QueueFault> for ShowFault {
     ghost from_gives = { λ e r. r ≡ Queue e };
 

@@ -23,6 +23,7 @@ impl<'a, P: Queue<Reading>> Playing<'a, P> {
             panel,
             mut lines,
         } = self;
+        // no place is past 65,536, so the cast loses nothing
         if let Some(fault) = fault {
             let refusal = StreamFault::from(fault);
             print(&mut lines, place as u32, Err(refusal));

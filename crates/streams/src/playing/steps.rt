@@ -18,7 +18,8 @@ impl<'a, P: Queue<Reading>> Playing<'a, P> {
         read(&self.bytes[self.place..])
     }
 
-    // Lists what the command that stands here answers, and goes on past it.
+    // Lists what the command that stands here answers, and goes on past it. No place is past 65,536, so the cast
+    // loses nothing.
     pub(crate) fn go_on(&mut self, found: Found, answer: Answer)
         requires stands { StandsAt self.old.bytes.now self.old.place (Ok (Some found)) }
         ensures bytes { self.new.bytes ≡ self.old.bytes }
