@@ -2,11 +2,10 @@ ghost use Rattle.std.specs.Prelude.{◌≡◌, ◌++◌};
 ghost use Rattle.streams.specs.Playing.{last_lines};
 
 use super::Playing;
-use crate::printed::print;
 use crate::run::Listed;
 use queues::queue::Queue;
 use records::reading::Reading;
-use runs::fault::StreamFault;
+use runs::fault::{Placed, StreamFault};
 use wire::faults::WireFault;
 
 impl<'a, P: Queue<Reading>> Playing<'a, P> {
@@ -25,8 +24,11 @@ impl<'a, P: Queue<Reading>> Playing<'a, P> {
         } = self;
         // no place is past 65,536, so the cast loses nothing
         if let Some(fault) = fault {
-            let refusal = StreamFault::from(fault);
-            print(&mut lines, place as u32, Err(refusal));
+            let placed = Placed {
+                fault: StreamFault::from(fault),
+                place: place as u32,
+            };
+            lines.push_reserved(placed.line());
         }
         let readings = panel.into_queue();
         Listed {

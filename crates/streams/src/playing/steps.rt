@@ -3,10 +3,11 @@ ghost use Rattle.streams.specs.Places.{StandsAt};
 ghost use Rattle.streams.specs.Printing.{lines_at};
 
 use super::Playing;
-use crate::printed::{Answer, print};
+use crate::printed::{Answer, Printed};
 use commands::read;
 use queues::queue::Queue;
 use records::reading::Reading;
+use runs::fault::Placed;
 use wire::commands::Found;
 use wire::faults::WireFault;
 
@@ -27,7 +28,21 @@ impl<'a, P: Queue<Reading>> Playing<'a, P> {
         ensures panel { self.new.panel ≡ self.old.panel }
         ensures lines { self.new.lines.items ≡ self.old.lines.items ++ lines_at self.old.place answer }
     {
-        print(&mut self.lines, self.place as u32, answer);
+        match answer {
+            Ok(Printed::Nothing) => {}
+            Ok(Printed::One(line)) => self.lines.push_reserved(line),
+            Ok(Printed::Two(first, second)) => {
+                self.lines.push_reserved(first);
+                self.lines.push_reserved(second);
+            }
+            Err(fault) => {
+                let placed = Placed {
+                    fault,
+                    place: self.place as u32,
+                };
+                self.lines.push_reserved(placed.line());
+            }
+        }
         self.place += found.taken;
     }
 }
