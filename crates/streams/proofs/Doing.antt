@@ -3,7 +3,6 @@ use Rattle.std.proofs.Common.{◌≡◌, ℕ, false, List, ℤ, Ok, Err, Option,
 use Rattle.std.specs.Result.{IsErrAnd}
 use Rattle.records.specs.declared.reading.Reading.{Reading}
 use Rattle.records.specs.declared.telegram.Telegram.{Telegram}
-use Rattle.queues.specs.Queues.{SameLimits}
 use Rattle.shows.specs.Calls.{Limits}
 use Rattle.shows.specs.Faults.{number}
 use Rattle.shows.specs.Histories.{with_setting}
@@ -49,9 +48,6 @@ module _ (row pace burst : ℕ) {Q : Type 0} (held : Q → List Telegram) (s : R
 
 -- a reading is offered, or a figure asked for
 module _ {Q : Type 0} (held : Q → List Reading) (room slack : Q → ℕ) (q q' : Q) (answer : Result Printed StreamFault) where
-  pub same_limits : SameLimits held room slack q q' → limits_at room slack q' ≡ limits_at room slack q
-  same_limits s = λ i. record { capacity = s.room_stays i; slack = s.slack_stays i }
-
   pub offer_did : (x : Reading) (r : Result (Option Reading) PanelFault) → Offers held room slack q x r q' → ((place : ℕ) → lines_at place answer ≡ lines_of (place, offered r))
       → (l : Limits) (phase : Phase) → Did l (limits_at room slack q) phase (held q) (commands.Reading x.row x.position x.target) answer phase (held q')
   offer_did x r t prints l phase = record { event = offered r; does = reading_offered x r refl refl refl (offers_over held room slack q q' x r t); prints = prints }
