@@ -8,8 +8,8 @@ ghost use Rattle.records.specs.Sorting.{insert, Ascending};
 use records::record::Record;
 
 // Drops the last cell, sets x among the others by the order, and answers what was dropped. It goes
-// from the end, so a newcomer that stands late costs little. A `for` over the places makes a put alone
-// 1.17 times as slow (sorted, 256 and 1,024 cells); to find the place first, by `rposition` or
+// from the end, so a newcomer that stands late costs little. A step is to take no more than 1.1 times as long as
+// plain Rust (docs/SPEED.md), which this form meets: a `for` over the places makes a put alone 1.17 times as slow (sorted, 256 and 1,024 cells); to find the place first, by `rposition` or
 // `partition_point`, and move by `copy_within` then, 1.1 to 2.6 times (measured as plain Rust).
 pub fn replace_last<R: Record>(cells: &mut [R], x: R) -> R
     requires some { 0 < length cells.old }
@@ -28,7 +28,8 @@ pub fn replace_last<R: Record>(cells: &mut [R], x: R) -> R
     last
 }
 
-// Drops the first cell, sets x among the others by the order, and answers what was dropped. The place
+// Drops the first cell, sets x among the others by the order, and answers what was dropped: the other way round
+// than above, where the same loop backward is the slower form. The place
 // is found and the cells moved in one pass: by `position` and `copy_within` a take and a put are 1.2 to
 // 1.4 times as slow (measured as plain Rust).
 pub fn replace_first<R: Record>(cells: &mut [R], x: R) -> R

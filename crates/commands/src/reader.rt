@@ -6,7 +6,8 @@ ghost use Rattle.wire.specs.Decoding.{width_of, whole, found, read_of};
 use buffers::faults::WireFault;
 use wire::commands::{Command, Found};
 
-// How many operand bytes follow a command byte; none where it is no command.
+// How many operand bytes follow a command byte of docs/STREAM.md; none where it is no command. Bytes are told
+// apart and named in slice patterns, a rule of the project.
 fn width(byte: u8) -> Option<usize>
     ensures { result ≡ width_of byte }
 {
@@ -111,12 +112,11 @@ pub fn read(bytes: &[u8]) -> Result<Option<Found>, WireFault>
     let [first, operands @ ..] = bytes else {
         return Ok(None);
     };
-    if *first < 0x01 || *first > 0x08 {
+    // a rule of the project tests the byte before it looks up the width, though the lookup refuses the same bytes
+    if !(0x01..=0x08).contains(first) {
         return Err(WireFault::Unknown);
     }
-    let Some(width) = width(*first) else {
-        return Err(WireFault::Unknown);
-    };
+    let width = width(*first).ok_or(WireFault::Unknown)?;
     if operands.len() < width {
         return Err(WireFault::CutOff);
     }

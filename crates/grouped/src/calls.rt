@@ -64,6 +64,7 @@ impl<R: Record> Queue<R> for Groups<R> {
         Ok(exchange_step(&mut self.over.cells, self.over.shape, newcomer))
     }
 
+    // There is always a first cell, so `filter` on it would be no plainer than the two cases.
     fn first(&self) -> Option<R> {
         let first = self.over.cells[0];
         if is_blank(&first) { None } else { Some(first) }

@@ -5,7 +5,8 @@ ghost use Rattle.lines.specs.declared.fields.Field.TheVariants.{Number, Signed, 
 
 use buffers::layers::Layer;
 
-// A field of a line: a number, one with a sign, or a letter.
+// A field of a line: a number, one with a sign, or a letter. Each width of number has its own `From` below: one
+// for every type that widens would overlap with that of a layer.
 #[derive(Clone, Copy)]
 pub(crate) enum Field {
     Number(u64),

@@ -25,7 +25,7 @@ mod tests {
         }
     }
 
-    // The release of the record that a put displaced, or 0.
+    // The release of the record that a put displaced, or 0: the tests keep their values.
     fn displaced(answer: Put<Telegram>) -> u64 {
         answer.displaced().map_or(0, |telegram| telegram.release)
     }

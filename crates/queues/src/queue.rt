@@ -5,7 +5,8 @@ use crate::fault::QueueFault;
 use records::record::Record;
 
 // What became of a record that was put: it is kept, and where the queue was full another left for it.
-// The two cases are an enum of their own, and no `Option`: a put's answer is named by what became of it.
+// The two cases are an enum over the record's type, and no `Option`, by a rule of the project: a put's
+// answer names what became of the record.
 #[derive(Clone, Copy, PartialEq, Eq, Debug)]
 pub enum Put<R> {
     Kept,
@@ -27,7 +28,8 @@ impl<R: Record> Put<R> {
 // A queue of records. It means the collection that it holds (`held`, as one ascending list in which
 // equal records repeat), a capacity (`room`) and a `slack`: so many records at most, the leaving one
 // counted in, stand at the end of the line from which a full queue may displace. No call asks for
-// anything, and a refused one leaves the whole value as it was.
+// anything, and a refused one leaves the whole value as it was. The three are members of their own: a
+// clause then cites the definition of each that an impl gives.
 pub trait Queue<R: Record> {
     ghost held: { Self → List R };
 

@@ -10,7 +10,8 @@ pub trait Record: Copy {
 
     ghost last: { Self };
 
-    // Whether this record stands no later than the other.
+    // Whether this record stands no later than the other. A test of the trait's own, and no bound on `Ord`, so that
+    // contracts name the order as one function of two records.
     fn no_later(&self, other: &Self) -> bool
         ensures { result ≡ order self.now other.now };
 

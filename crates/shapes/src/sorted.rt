@@ -18,8 +18,7 @@ impl<R: Drop> SortedCells<R> {
     pub fn new(cells: Vec<R>) -> Result<SortedCells<R>, QueueFault>
         ensures { MatchResult result (λ s. Shaped (vec_len cells) × (s.cells ≡ cells)) (λ e. (Shaped (vec_len cells) → ⊥) × (e ≡ Shape)) }
     {
-        let count = cells.len();
-        if count < 1 || count > 4096 {
+        if !(1..=4096).contains(&cells.len()) {
             return Err(QueueFault::Shape);
         }
         Ok(SortedCells { cells })

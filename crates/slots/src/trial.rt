@@ -22,7 +22,8 @@ impl Drop for Trial<'_> {
 }
 
 impl Trial<'_> {
-    // The release of one more length, which moves the row on, or why it is refused at its place.
+    // The release of one more length, which moves the row on, or why it is refused at its place, which each test
+    // puts beside its fault so that `?` hands it on.
     fn step(&mut self, at: u64, bytes: u16, place: usize) -> Result<u64, ForecastFault>
         ensures tells { Tells self.old.row.now at bytes place result self.new.row.now }
         ensures was { self.new.was ≡ self.old.was }

@@ -11,7 +11,8 @@ use cells::blank_all;
 use records::record::Record;
 use shapes::SortedCells;
 
-// A sorted queue: its cells ascend, the free ones last.
+// A sorted queue: its cells ascend, the free ones last. A grouped queue has the same calls over other steps
+// and other facts of how cells stand: a trait of steps with laws for both would be longer than the two.
 #[derive(Drop)]
 pub struct Sorted<R: Record> {
     over: SortedCells<R>,
@@ -23,8 +24,7 @@ pub struct Sorted<R: Record> {
 }
 
 impl<R: Record> Sorted<R> {
-    // Nothing is held: every cell is blanked. A grouped queue is made alike, over cells of another shape: the two
-    // lines are no plainer as a function of both.
+    // Nothing is held: every cell is blanked.
     pub fn new(mut over: SortedCells<R>) -> Sorted<R>
         ensures { vec_items result.over.cells ≡ replicate (vec_len over.cells) R.Record.last }
     {

@@ -76,6 +76,7 @@ pub(crate) fn play<Q: Queue<Telegram>, P: Queue<Reading>>(
     let mut show = RiggedShow::new(queue);
     let ended = playing.stage(&mut show);
     let started = show.start();
+    // as above: the show goes on or is closed before anything is left
     match ended {
         Ok(found) => {
             playing.go_on(found, Ok(Printed::Nothing));

@@ -14,7 +14,7 @@ use wire::lines::Line;
 pub(crate) struct Playing<'a, P> {
     // the whole stream
     bytes: &'a [u8],
-    // where the next command stands, in bytes from 0
+    // where the next command stands, in bytes from 0: lines tell places, so the bytes are not cut
     place: usize,
     panel: Panel<P>,
     // the heading first

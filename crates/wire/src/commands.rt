@@ -25,7 +25,8 @@ pub enum Command {
     Release {
         at: u64,
     },
-    // lets the first telegram out and admits another, at a time in ticks
+    // lets the first telegram out and admits another, at a time in ticks. It and `Admit` name their operands as
+    // the format lists them: a struct of the four would put one more step into every match on a command.
     Exchange {
         at: u64,
         row: u8,

@@ -31,6 +31,7 @@ impl<Q: Queue<Telegram>> RunningShow<Q> {
         if self.book.bad_time(at) {
             return Err(ShowFault::Time.into());
         }
+        // tested here and lent by its number: the check learns nothing of an array that was lent and left at a `?`
         let _found = self.book.find_row(row).ok_or(ShowFault::Row)?;
         let lent = &mut self.book.rows[usize::from(row)];
         tell(lent, at, lengths, times)

@@ -16,7 +16,7 @@ impl<'a, P: Queue<Reading>> Playing<'a, P> {
         ensures halts { Halts S.ending self.new.bytes.now self.new.place result }
         ensures limits { S.limits show.new ≡ S.limits show.old }
     {
-        // the loop says by its breaks where and why the stage ended
+        // a rule of the project: the loop has a label, and yields by `break` where and why the stage ended
         let ended = 'stage: loop {
             let found = match self.at() {
                 Ok(Some(found)) => found,
