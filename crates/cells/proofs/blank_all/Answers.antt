@@ -1,11 +1,6 @@
-use Rattle.std.proofs.Common.{◌≡◌, [], ◌∷◌, ◌++◌, length, replicate, sym, ap, ◌∙◌, arith}
-use Rattle.std.proofs.lemmas.List.{take_all, take_more_set, replicate_more}
+use Rattle.std.proofs.Common.{◌≡◌, length, replicate, sym, ap, ◌∙◌, arith}
+use Rattle.std.proofs.lemmas.List.{take_all}
 use Rattle.cells.proofs.blank_all.Goals as goal
-
-pub loop-cell-preserved : goal.loop-cell-preserved
-loop-cell-preserved g c =
-    let k = c.loop-cell.cell-index in
-    take_more_set c.loop-cell.cells k c.blank.result (omega arith) ∙ ap (λ v. v ++ (c.blank.result ∷ [])) c.loop-cell.invariant ∙ ap (λ y. replicate k g.R.Record.last ++ (y ∷ [])) c.blank.ensures ∙ replicate_more k g.R.Record.last
 
 pub returns : goal.returns
 returns g c =

@@ -1,15 +1,9 @@
-use Rattle.std.proofs.Common.{◌≡◌, ◌+◌, ◌-◌, true, false, length, get_or, take, sym, refl, ap, ◌∙◌, subst, arith}
+use Rattle.std.proofs.Common.{◌≡◌, ◌+◌, ◌-◌, true, false, length, get_or, take, sym, ap, ◌∙◌, subst, arith}
 use Rattle.std.specs.List.{AllByRecursion as All}
 use Rattle.std.proofs.lemmas.List.{get_or_read, get_or_default, length-take-le}
-use Rattle.standing.proofs.Replacing.{front, down_start, down_turn, down_end, last_at, up_to}
+use Rattle.standing.proofs.Replacing.{front, down_turn, down_end, last_at, up_to}
 use Rattle.cells.proofs.replace_last.Goals as goal
 use Rattle.cells.proofs.replace_last.Goals.{then-loop-k-test+else-not-no_later, else-loop-k-test}
-
-pub loop-k-init : goal.loop-k-init
-loop-k-init g c =
-    let E = c.args.cells.now in
-    let s = down_start E c.requires.some in
-    (omega arith, refl, s.0, subst (All (λ y. g.R.Record.order y c.args.x ≡ false)) (sym s.1) tt)
 
 pub loop-k-preserved : goal.loop-k-preserved
 loop-k-preserved g c =

@@ -16,13 +16,6 @@ replace_last-requires g c =
     let l = length-take-le (length E - 1) (drop 1 E) (omega arith) in
     record { some = omega arith; ascending = ascending_take le _ _ (ascending_take le (length E - 1) (drop 1 E) (ascending_tail le E c.requires.ascending)) }
 
-pub replace_first-requires : goal.replace_first-requires
-replace_first-requires g c =
-    let k = ap length (refit_rest g.R.Record.order c.args.z c.args.group.now c.replace_last.new.cells c.requires.two c.replace_last.ensures.cells) in
-    let e = length_insert g.R.Record.order c.args.z (s_of (length c.args.group.now) c.args.group.now) in
-    let d = length-drop 1 (put_mid 1 (length c.args.group.now - 1) c.args.group.now c.replace_last.new.cells) in
-    record { some = omega arith }
-
 pub returns : goal.returns
 returns g c =
     let le = g.R.Record.order in
