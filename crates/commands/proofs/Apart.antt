@@ -3,7 +3,7 @@ use Rattle.std.proofs.Common.{◌≡◌, ℕ, ◌+◌, ◌-◌, ◌*◌, ◌^◌
 use Rattle.std.proofs.lemmas.List.{take_rest, length-drop, drop-drop, get_or-drop}
 use Rattle.std.proofs.lemmas.Int.{of_z-to_z}
 use Rattle.wire.specs.declared.commands.Command.{Command}
-use Rattle.wire.specs.declared.commands.Command.TheVariants.{SetRow, Reading}
+use Rattle.wire.specs.declared.commands.Command.TheVariants.{Reading}
 use Rattle.wire.specs.Bytes.{field}
 use Rattle.wire.specs.Decoding.{width_of, command_of, found, read_of}
 use Rattle.wire.proofs.Codes.{read_whole}
@@ -31,13 +31,6 @@ kept : (z : ℤ) (n : ℕ) → n < 2 ^ 32 → z ≡ to_z w32 n → to_z w32 (of_
 kept z n lt e = ap (λ y. to_z w32 (of_z w32 y)) e ∙ ap (to_z w32) (of_z-to_z w32 n lt)
 
 module _ (bs : List ℕ) where
-  pub set_row_is : (pace burst : ℕ) → 8 ≤ length bs → pace ≡ get_or bs 2 0 * 256 + get_or bs 3 0 → burst ≡ get_or bs 4 0 * 16777216 + get_or bs 5 0 * 65536 + get_or bs 6 0 * 256 + get_or bs 7 0 → SetRow (get_or bs 1 0) pace burst ≡ command_of 1 bs
-  set_row_is pace burst room p b =
-      let x = word8 bs 1 (omega arith) in
-      let y = word16 bs 2 (omega arith) in
-      let z = word32 bs 4 (omega arith) in
-      cc
-
   abbrev time : ℕ
   time = get_or bs 1 0 * 72057594037927936 + get_or bs 2 0 * 281474976710656 + get_or bs 3 0 * 1099511627776 + get_or bs 4 0 * 4294967296 + get_or bs 5 0 * 16777216 + get_or bs 6 0 * 65536 + get_or bs 7 0 * 256 + get_or bs 8 0
 
@@ -68,9 +61,6 @@ module _ (bs : List ℕ) where
 
   late_rest : rest (rest bs 9) 7 ≡ rest bs 16
   late_rest = take_rest (rest bs 9) 7 ∙ ap (drop 7) (take_rest bs 9) ∙ drop-drop 7 9 bs ∙ sym (take_rest bs 16)
-
-  pub late_within : 16 ≤ length bs → length (rest (rest bs 9) 7) < length bs
-  late_within room = let l = ap length late_rest in omega (arith, rest_within bs 15 room)
 
   pub late_apart : (k : ℕ) (V : ℕ → ℕ → ℕ → ℕ → Command) (at len handle : ℕ) → width_of k ≡ Some 15 → V (field bs 1 8) (field bs 9 1) (field bs 10 2) (field bs 12 4) ≡ command_of k bs → 16 ≤ length bs → get_or bs 0 0 ≡ k → at ≡ time bs → len ≡ get_or (rest bs 9) 1 0 * 256 + get_or (rest bs 9) 2 0 → handle ≡ get_or (rest bs 9) 3 0 * 16777216 + get_or (rest bs 9) 4 0 * 65536 + get_or (rest bs 9) 5 0 * 256 + get_or (rest bs 9) 6 0 → read_of bs ≡ Ok (Some (found (V at (get_or (rest bs 9) 0 0) len handle) (length bs - length (rest (rest bs 9) 7))))
   late_apart k V at len handle takes is room op t l h =
