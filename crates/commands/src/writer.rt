@@ -44,7 +44,8 @@ fn reading_bytes(row: u8, position: i32, target: i32) -> [u8; 10]
 }
 
 // Writes the bytes of a command at the front of a buffer and answers their count; the bytes past them stay.
-// Refuses a buffer of under 96 bytes, and leaves it.
+// Refuses a buffer of under 96 bytes, and leaves it. The test stands here and in the writer of lines, since `put`,
+// in which both end, refuses nothing.
 pub fn write(command: &Command, out: &mut [u8]) -> Result<usize, WireFault>
     ensures count { result ≡ count_in out.old (encode command.now) }
     ensures buffer { out.new ≡ after out.old (encode command.now) }
