@@ -33,6 +33,7 @@ fn show_figure<P: Queue<Reading>>(panel: &mut Panel<P>) -> Answer
 
 // One command to the panel. In a stage that has no use of its own for it, any other does not suit the
 // stage.
+#[inline(always)]
 pub(crate) fn to_panel<P: Queue<Reading>>(panel: &mut Panel<P>, command: Command) -> Answer
     ensures did { (l : Limits) (phase : Phase) (s : State) → suits phase command ≡ suits (closed s) command → Did l (limits_at P.Queue.room P.Queue.slack panel.old.queue) phase (P.Queue.held panel.old.queue) command result phase (P.Queue.held panel.new.queue) }
     ensures limits { limits_at P.Queue.room P.Queue.slack panel.new.queue ≡ limits_at P.Queue.room P.Queue.slack panel.old.queue }

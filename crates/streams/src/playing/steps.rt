@@ -11,8 +11,11 @@ use runs::fault::Placed;
 use wire::commands::Found;
 use wire::faults::WireFault;
 
+// Each stage has a loop of its own once it is compiled, and these are its steps: left as calls, they make a list of
+// refusals take a quarter longer.
 impl<'a, P: Queue<Reading>> Playing<'a, P> {
     // What stands where the stream is played to.
+    #[inline(always)]
     pub(super) fn at(&self) -> Result<Option<Found>, WireFault>
         ensures { StandsAt self.now.bytes.now self.now.place result }
     {
@@ -21,6 +24,7 @@ impl<'a, P: Queue<Reading>> Playing<'a, P> {
 
     // Lists what the command that stands here answers, and goes on past it. No place is past 65,536, so the cast
     // loses nothing.
+    #[inline(always)]
     pub(crate) fn go_on(&mut self, found: Found, answer: Answer)
         requires stands { StandsAt self.old.bytes.now self.old.place (Ok (Some found)) }
         ensures bytes { self.new.bytes ≡ self.old.bytes }
