@@ -34,7 +34,8 @@ fn telegram(release: u64) -> Telegram {
     }
 }
 
-// Makes a call, and answers the telegram that left for it.
+// Makes a call, and answers the telegram that left for it. Each call has a number of its own or none, which a match
+// takes apart.
 fn make<Q: Queue<Telegram>>(queue: &mut Q, call: Call) -> Result<Option<Telegram>, QueueFault> {
     match call {
         Call::Put(release) => Ok(queue.put(telegram(release))?.displaced()),
@@ -43,7 +44,7 @@ fn make<Q: Queue<Telegram>>(queue: &mut Q, call: Call) -> Result<Option<Telegram
     }
 }
 
-// Makes a call, and says what was answered.
+// Makes a call, and says what was answered: four ways to say it, so `map` and its like would be no plainer.
 pub(crate) fn made<Q: Queue<Telegram>>(
     heap: Global,
     queue: &mut Q,

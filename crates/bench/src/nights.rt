@@ -15,6 +15,7 @@ pub(crate) enum Answer {
     Release(Result<Telegram, ShowFault>),
 }
 
+// Each kind of answer has words of its own, accepted or refused.
 impl fmt::Display for Answer {
     fn fmt<W: fmt::Write>(&self, f: &mut fmt::Formatter<W>) -> fmt::Result {
         match self {
@@ -41,6 +42,7 @@ impl fmt::Display for Answer {
 // printed.
 #[derive(Drop)]
 pub(crate) struct Evening {
+    // all of them, so no length stands beside
     answers: [Answer; 5],
     report: Report,
 }

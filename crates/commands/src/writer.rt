@@ -10,7 +10,7 @@ use buffers::bytes::put;
 use buffers::faults::WireFault;
 use wire::commands::Command;
 
-// The bytes of a row's card; the operands of a card fit.
+// The bytes of a row's card; the operands of a card fit. Here and below an array is whole: it has no length beside it.
 fn set_row_bytes(row: u8, pace: u16, burst: u32) -> [u8; 8]
     ensures bytes { result ≡ encode (SetRow row pace burst) }
     ensures fits { Fits (SetRow row pace burst) }
@@ -55,6 +55,7 @@ pub fn write(command: &Command, out: &mut [u8]) -> Result<usize, WireFault>
     if out.len() < 96 {
         return Err(WireFault::Buffer);
     }
+    // each command has operands of its own, which a match takes apart
     let count = match *command {
         Command::SetRow { row, pace, burst } => put(out, &set_row_bytes(row, pace, burst)),
         Command::Start => put(out, &[0x02]),

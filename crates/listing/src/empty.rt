@@ -19,6 +19,7 @@ fn free<R: Record + Drop>(heap: Global, groups: usize, size: usize) -> Result<Gr
     ensures { IfOk result (λ q. (cells_of q ≡ replicate (groups * size) R.Record.last) × (q.over.shape.groups ≡ groups) × (q.over.shape.size ≡ size)) }
 {
     let cells = vec![in heap; R::blank(); groups * size]?;
+    // the shape fits, so there is no refusal to hand on
     let Ok(over) = GroupCells::new(cells, groups, size) else {
         unreachable()
     };

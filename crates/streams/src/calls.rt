@@ -103,6 +103,7 @@ impl<Q: Queue<Telegram>> Stage for RunningShow<Q> {
         panel: &mut Panel<P>,
         command: Command,
     ) -> Option<Answer> {
+        // each command has operands of its own, which a match takes apart
         match command {
             Command::Admit {
                 at,

@@ -38,6 +38,7 @@ pub(crate) fn to_panel<P: Queue<Reading>>(panel: &mut Panel<P>, command: Command
     ensures did { (l : Limits) (phase : Phase) (s : State) → suits phase command ≡ suits (closed s) command → Did l (limits_at P.Queue.room P.Queue.slack panel.old.queue) phase (P.Queue.held panel.old.queue) command result phase (P.Queue.held panel.new.queue) }
     ensures limits { limits_at P.Queue.room P.Queue.slack panel.new.queue ≡ limits_at P.Queue.room P.Queue.slack panel.old.queue }
 {
+    // each command has operands of its own, which a match takes apart
     match command {
         Command::Reading {
             row,

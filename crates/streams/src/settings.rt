@@ -46,6 +46,7 @@ impl<Q: Queue<Telegram>> Stage for RiggedShow<Q> {
         panel: &mut Panel<P>,
         command: Command,
     ) -> Option<Answer> {
+        // each command has operands of its own, which a match takes apart
         match command {
             Command::SetRow { row, pace, burst } => Some(set_row(self, row, pace, burst)),
             Command::Start => None,

@@ -22,7 +22,8 @@ pub(crate) trait Stage {
     // the command that ends the stage, where one does
     ghost ending: { Option ACommand };
 
-    // One command, over the panel beside the show. None where it is the one that ends the stage: it is
+    // One command, over the panel beside the show. The limits stay, which relates before and after, so that no fact of a
+    // value can say it. None where it is the one that ends the stage: it is
     // left undone.
     fn handle<P: Queue<Reading>>(
         &mut self,

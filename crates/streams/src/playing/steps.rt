@@ -32,6 +32,7 @@ impl<'a, P: Queue<Reading>> Playing<'a, P> {
         ensures panel { self.new.panel ≡ self.old.panel }
         ensures lines { self.new.lines.items ≡ self.old.lines.items ++ lines_at self.old.place answer }
     {
+        // four ways that share no step, so `map` and its like would say no less
         match answer {
             Ok(Printed::Nothing) => {}
             Ok(Printed::One(line)) => self.lines.push_reserved(line),
