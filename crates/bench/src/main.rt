@@ -41,24 +41,24 @@ fn sorted_cells(heap: Global) -> anyhow::Result<TelegramSorted> {
 // One evening over a queue.
 fn evening<Q: Queue<Telegram> + Drop>(
     rt: &HostRuntime,
-    over: &str,
     card: RowCard,
     queue: Q,
 ) -> anyhow::Result<()> {
-    println!(rt; "an evening over {over}")?;
     print!(rt; "{}", play(card, queue))?;
     Ok(())
 }
 
-// One evening over each queue, and the last ticks of a row.
+// One evening over each queue, each said before its cells are asked for, and the last ticks of a row.
 fn evenings(rt: &HostRuntime) -> anyhow::Result<()> {
     let heap = rt.alloc();
     let slow = RowCard::new(20, 3000)?;
     let quick = RowCard::new(1, 0)?;
-    evening(rt, "a grouped queue", slow, nine_cells(heap)?)?;
-    evening(rt, "a sorted queue", slow, sorted_cells(heap)?)?;
-    let beside = SideCell::new(nine_cells(heap)?);
-    evening(rt, "a side cell beside a grouped queue", slow, beside)?;
+    println!(rt; "an evening over a grouped queue")?;
+    evening(rt, slow, nine_cells(heap)?)?;
+    println!(rt; "an evening over a sorted queue")?;
+    evening(rt, slow, sorted_cells(heap)?)?;
+    println!(rt; "an evening over a side cell beside a grouped queue")?;
+    evening(rt, slow, SideCell::new(nine_cells(heap)?))?;
     println!(rt; "64 bytes at pace 1, 64 ticks and then 63 ticks before the last")?;
     for answer in last_ticks(quick, nine_cells(heap)?).iter() {
         println!(rt; "{answer}")?;
