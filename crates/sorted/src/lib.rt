@@ -26,7 +26,7 @@ pub struct Sorted<R: Record> {
 impl<R: Record> Sorted<R> {
     // Nothing is held: every cell is blanked.
     pub fn new(mut over: SortedCells<R>) -> Sorted<R>
-        ensures { vec_items result.over.cells ≡ replicate (vec_len over.cells) R.Record.last }
+        ensures cells { vec_items result.over.cells ≡ replicate (vec_len over.cells) R.Record.last }
     {
         blank_all(&mut over.cells);
         Sorted { over, held: 0 }
